@@ -1,1 +1,2 @@
 pub mod Xor
+pub mod Places
