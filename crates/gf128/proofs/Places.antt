@@ -5,11 +5,13 @@
 use mathlib.Core.Path.{_≡_, refl, sym, ap, ap₂, _∙_, subst}
 use mathlib.Core.Bool.{Bool, true, false, cond, _&&_, _||_}
 use mathlib.Core.List.{List}
+use mathlib.Core.Logic.{⊎-elim}
 use Prim.Native.Nat.{ℕ, zero, suc, _+_, _-_, _*_, _/_, _%_, _^_, _<_, _≤_}
-use native.Mathlib.Nat.{zero-mul, one-mul, mul-zero, zero-div, div-one, mod-lt, zero-lt-suc, lt-of-le-of-lt, div-le-self, add-zero, add-suc, sub-self, le-of-suc-le-suc, not-suc-le-zero}
+use native.Mathlib.Nat.{zero-add, zero-mul, one-mul, mul-zero, zero-div, div-one, mod-lt, zero-lt-suc, lt-of-le-of-lt, div-le-self, add-zero, add-suc, sub-self, sub-zero, div-eq-of-lt, eq-or-lt-of-le, mul-assoc, mul-add-div-right, le-of-suc-le-suc, not-suc-le-zero}
+use native.Mathlib.Numerals.{add-one}
 use native.Mathlib.Omega.{arith}
-use lib.Bits.{bitXor, xor-lt, xor-shr, xor-zero-r, xor-self}
-use lib.Pow.{pow-pos, shr-shr, pow-add, shr-lt, pow-lt}
+use lib.Bits.{bitXor, xor-lt, xor-shr, xor-zero-r, xor-self, block-odd}
+use lib.Pow.{pow-pos, pow-add, shr-shr, shr-lt, high}
 use lib.Dec.{T, eqb, eqb→eq, lit<}
 use lib.ListN.{getD}
 use Rattle.gf128.specs.Bytes.{beAt, blockAt}
@@ -32,8 +34,8 @@ digit-xor b c v hb hc =
     digit-ind (λ b. bitXor b c * v ≡ bitXor (b * v) (c * v))
     (ap (λ (x : ℕ). bitXor x (c * v)) (sym (zero-mul v)))
     (digit-ind (λ c. bitXor 1 c * v ≡ bitXor (1 * v) (c * v))
-      (sym (ap (bitXor (1 * v)) (zero-mul v) ∙ xor-zero-r (1 * v)))
-      (zero-mul v ∙ sym (xor-self (1 * v))) c hc)
+    (sym (ap (bitXor (1 * v)) (zero-mul v) ∙ xor-zero-r (1 * v)))
+    (zero-mul v ∙ sym (xor-self (1 * v))) c hc)
     b hb
 
 -- what keeps 0 keeps scaling by a digit
@@ -123,7 +125,7 @@ module _ (m R : ℕ) where
   sumOf-xor-right u a b zero = refl
   sumOf-xor-right u a b (suc k) =
       ap₂ bitXor (sumOf-xor-right u a b k)
-        (ap (λ (x : ℕ). coeffOf m u k * x) (shiftedOf-xor R a b k) ∙ xor-digit (coeffOf m u k) (shiftedOf R a k) (shiftedOf R b k) (coeffOf-lt m u k))
+      (ap (λ (x : ℕ). coeffOf m u k * x) (shiftedOf-xor R a b k) ∙ xor-digit (coeffOf m u k) (shiftedOf R a k) (shiftedOf R b k) (coeffOf-lt m u k))
       ∙ xor-swap4 (sumOf m R u a k) (sumOf m R u b k) (coeffOf m u k * shiftedOf R a k) (coeffOf m u k * shiftedOf R b k)
 
   pub sumOf-xor-left : (u v h k : ℕ) → sumOf m R (bitXor u v) h k ≡ bitXor (sumOf m R u h k) (sumOf m R v h k)
@@ -131,8 +133,8 @@ module _ (m R : ℕ) where
   sumOf-xor-left u v h zero = refl
   sumOf-xor-left u v h (suc k) =
       ap₂ bitXor (sumOf-xor-left u v h k)
-        (ap (λ (x : ℕ). x * shiftedOf R h k) (coeffOf-xor m u v k)
-          ∙ digit-xor (coeffOf m u k) (coeffOf m v k) (shiftedOf R h k) (coeffOf-lt m u k) (coeffOf-lt m v k))
+      (ap (λ (x : ℕ). x * shiftedOf R h k) (coeffOf-xor m u v k)
+      ∙ digit-xor (coeffOf m u k) (coeffOf m v k) (shiftedOf R h k) (coeffOf-lt m u k) (coeffOf-lt m v k))
       ∙ xor-swap4 (sumOf m R u h k) (sumOf m R v h k) (coeffOf m u k * shiftedOf R h k) (coeffOf m v k * shiftedOf R h k)
 
   -- an additive map that goes through times x goes through a sum
@@ -143,8 +145,8 @@ module _ (m R : ℕ) where
   sumOf-map f fx ft u h (suc k) =
       fx (sumOf m R u h k) (coeffOf m u k * shiftedOf R h k)
       ∙ ap₂ bitXor (sumOf-map f fx ft u h k)
-        (digit-map f (fx 0 0 ∙ xor-self (f 0)) (coeffOf m u k) (shiftedOf R h k) (coeffOf-lt m u k)
-          ∙ ap (λ (x : ℕ). coeffOf m u k * x) (shiftedOf-map R f ft h k))
+      (digit-map f (fx 0 0 ∙ xor-self (f 0)) (coeffOf m u k) (shiftedOf R h k) (coeffOf-lt m u k)
+      ∙ ap (λ (x : ℕ). coeffOf m u k * x) (shiftedOf-map R f ft h k))
 
   pub sumOf-timesX : (u h k : ℕ) → sumOf m R u (timesXOf R h) k ≡ timesXOf R (sumOf m R u h k)
   sumOf-timesX u h k = sym (sumOf-map (timesXOf R) (timesXOf-xor R) (λ v. refl) u h k)
@@ -211,3 +213,112 @@ module _ (m R : ℕ) (hR : R < 2 ^ suc m) where
   pub productOf-lt : (u h : ℕ) → h < 2 ^ suc m → productOf m R u h < 2 ^ suc m
   unfolding productOf
   productOf-lt u h hh = sumOf-lt u h (suc m) hh
+
+-- ---- times x, place by place
+
+half-place : (m v k : ℕ) → k < m → coeffOf m (v / 2) (suc k) ≡ coeffOf m v k
+unfolding coeffOf
+half-place m v k h =
+    let e : 1 + (m - suc k) ≡ m - k = omega arith in
+    ap (λ (x : ℕ). x % 2) (shr-shr v 1 (m - suc k) ∙ ap (λ (x : ℕ). v / 2 ^ x) e)
+
+half-place-0 : (m v : ℕ) → v < 2 ^ suc m → coeffOf m (v / 2) 0 ≡ 0
+unfolding coeffOf
+half-place-0 m v hv =
+    ap (λ (x : ℕ). v / 2 / 2 ^ x % 2) (sub-zero m)
+    ∙ ap (λ (x : ℕ). x % 2) (div-eq-of-lt (shr-lt m 1 (subst (λ (x : ℕ). v < 2 ^ x) (sym (add-one m)) hv)))
+
+pub timesXOf-place : (m R v k : ℕ) → k < m → coeffOf m (timesXOf R v) (suc k) ≡ bitXor (coeffOf m v k) (coeffOf m v m * coeffOf m R (suc k))
+unfolding timesXOf
+timesXOf-place m R v k h =
+    coeffOf-xor m (v / 2) (v % 2 * R) (suc k)
+    ∙ ap₂ bitXor (half-place m v k h)
+    (digit-map (λ x. coeffOf m x (suc k)) (coeffOf-zero m (suc k)) (v % 2) R (mod2-lt v)
+    ∙ ap (λ (x : ℕ). x * coeffOf m R (suc k)) (sym (coeffOf-last m v)))
+
+pub timesXOf-place-0 : (m R v : ℕ) → v < 2 ^ suc m → coeffOf m (timesXOf R v) 0 ≡ coeffOf m v m * coeffOf m R 0
+unfolding timesXOf
+timesXOf-place-0 m R v hv =
+    coeffOf-xor m (v / 2) (v % 2 * R) 0
+    ∙ ap₂ bitXor (half-place-0 m v hv)
+    (digit-map (λ x. coeffOf m x 0) (coeffOf-zero m 0) (v % 2) R (mod2-lt v)
+    ∙ ap (λ (x : ℕ). x * coeffOf m R 0) (sym (coeffOf-last m v)))
+
+-- the test p passes at every number below n
+abbrev pub allBelow : ℕ → (ℕ → Bool) → Bool
+allBelow zero p = true
+allBelow (suc n) p = p n && allBelow n p
+
+pub and-left : (a b : Bool) → T (a && b) → T a
+and-left true b t = tt
+and-left false b t = t
+
+pub and-right : (a b : Bool) → T (a && b) → T b
+and-right true b t = t
+and-right false b t = absurd t
+
+pub allBelow-at : (n : ℕ) (p : ℕ → Bool) → T (allBelow n p) → (k : ℕ) → k < n → T (p k)
+allBelow-at zero p t k h = absurd (not-suc-le-zero h)
+allBelow-at (suc n) p t k h =
+    ⊎-elim (λ e. subst (λ (x : ℕ). T (p x)) (sym e) (and-left (p n) (allBelow n p) t))
+    (λ l. allBelow-at n p (and-right (p n) (allBelow n p) t) k l)
+    (eq-or-lt-of-le (le-of-suc-le-suc h))
+
+-- GHASH's places, in document 01's words: those that are flipped if the coefficient from place 127 was 1
+abbrev pub flips : ℕ → ℕ
+flips k = cond (eqb k 0 || (eqb k 1 || (eqb k 2 || eqb k 7))) 1 0
+
+reduction-place : (k : ℕ) → k < 128 → coefficient reduction k ≡ flips k
+unfolding coeffOf
+reduction-place k h = eqb→eq (coefficient reduction k) (flips k) (allBelow-at 128 (λ k. eqb (coefficient reduction k) (flips k)) tt k h)
+
+-- every coefficient moves one place up and is flipped at places 0, 1, 2 and 7 if the one from place 127 was 1
+pub timesX-place : (v k : ℕ) → k < 127 → coefficient (timesX v) (suc k) ≡ bitXor (coefficient v k) (coefficient v 127 * flips (suc k))
+timesX-place v k h =
+    timesXOf-place 127 reduction v k h
+    ∙ ap (λ (x : ℕ). bitXor (coefficient v k) (coefficient v 127 * x)) (reduction-place (suc k) (omega arith))
+
+-- place 0 gets 0 and is flipped likewise
+pub timesX-place-0 : (v : ℕ) → v < 2 ^ 128 → coefficient (timesX v) 0 ≡ coefficient v 127 * flips 0
+timesX-place-0 v hv = timesXOf-place-0 127 reduction v hv ∙ ap (λ (x : ℕ). coefficient v 127 * x) (reduction-place 0 (lit< tt))
+
+-- ---- bytes
+
+-- a digit below w does not see what stands from w on
+low-digit : (x b d w : ℕ) → d < w → (x * 2 ^ w + b) / 2 ^ d % 2 ≡ b / 2 ^ d % 2
+low-digit x b d w h =
+    let e : w ≡ suc (w - suc d) + d = omega arith in
+    ap (λ (n : ℕ). (n + b) / 2 ^ d % 2) (ap (λ (n : ℕ). x * 2 ^ n) e ∙ ap (λ (n : ℕ). x * n) (pow-add 2 (suc (w - suc d)) d) ∙ sym (mul-assoc x (2 ^ suc (w - suc d)) (2 ^ d)))
+    ∙ ap (λ (n : ℕ). n % 2) (mul-add-div-right (pow-pos d) (x * 2 ^ suc (w - suc d)) b)
+    ∙ block-odd x (w - suc d) (b / 2 ^ d)
+
+module _ (s : List ℕ) (bytes : (i : ℕ) → getD s i 0 < 256) (at : ℕ) where
+  beAt-digit : (n k d : ℕ) → k + d + 1 ≡ 8 * n → beAt s at n / 2 ^ d % 2 ≡ getD s (at + k / 8) 0 / 2 ^ (7 - k % 8) % 2
+  unfolding beAt
+  beAt-digit zero k d e = absurd (omega arith)
+  beAt-digit (suc n) k d e =
+      let le : k / 8 ≤ n = omega arith in
+      ⊎-elim
+      (λ (h : k / 8 ≡ n).
+      let d7 : d ≡ 7 - k % 8 = omega arith in
+      low-digit (beAt s at n) (getD s (at + n) 0) d 8 (omega arith)
+      ∙ ap₂ (λ (i j : ℕ). getD s (at + i) 0 / 2 ^ j % 2) (sym h) d7)
+      (λ (h : k / 8 < n).
+      let d8 : d ≡ 8 + (d - 8) = omega arith in
+      ap (λ (x : ℕ). x % 2)
+      (ap (λ (x : ℕ). (beAt s at n * 256 + getD s (at + n) 0) / 2 ^ x) d8
+      ∙ sym (shr-shr (beAt s at n * 256 + getD s (at + n) 0) 8 (d - 8))
+      ∙ ap (λ (x : ℕ). x / 2 ^ (d - 8)) (high (beAt s at n) 8 (bytes (at + n))))
+      ∙ beAt-digit n k (d - 8) (omega arith))
+      (eq-or-lt-of-le le)
+
+  -- coefficient k of n bytes is bit 7 - k mod 8 of byte k div 8
+  pub coeffOf-byte : (m n k : ℕ) → suc m ≡ 8 * n → k ≤ m → coeffOf m (beAt s at n) k ≡ getD s (at + k / 8) 0 / 2 ^ (7 - k % 8) % 2
+  unfolding coeffOf
+  coeffOf-byte m n k e h = beAt-digit n k (m - k) (omega arith)
+
+-- document 01: coefficient k of a block is bit 7 - k mod 8 of byte k div 8
+pub coefficient-byte : (s : List ℕ) → ((i : ℕ) → getD s i 0 < 256) → (k : ℕ) → k < 128
+    → coefficient (blockAt s 0) k ≡ getD s (k / 8) 0 / 2 ^ (7 - k % 8) % 2
+coefficient-byte s bytes k h =
+    coeffOf-byte s bytes 0 127 16 k refl (omega arith) ∙ ap (λ (i : ℕ). getD s i 0 / 2 ^ (7 - k % 8) % 2) (zero-add (k / 8))

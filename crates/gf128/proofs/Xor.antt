@@ -30,14 +30,14 @@ pub xor-assoc : (a b c : ℕ) → bitXor (bitXor a b) c ≡ bitXor a (bitXor b c
 xor-assoc =
     bin-ind (λ (a : ℕ). (b c : ℕ) → bitXor (bitXor a b) c ≡ bitXor a (bitXor b c)) (λ b c. refl)
     (λ a ih b c.
-        split2 (bitXor (bitXor a b) c)
-        ∙ ap₂ (λ (x y : ℕ). x * 2 + y)
-            (xor-half (bitXor a b) c ∙ ap (λ (x : ℕ). bitXor x (c / 2)) (xor-half a b) ∙ ih (b / 2) (c / 2)
-              ∙ sym (xor-half a (bitXor b c) ∙ ap (bitXor (a / 2)) (xor-half b c)))
-            (xor-odd (bitXor a b) c ∙ ap (λ (x : ℕ). bitXor x (c % 2)) (xor-odd a b)
-              ∙ digit-assoc (a % 2) (b % 2) (c % 2) (mod-lt a (zero-lt-suc 1)) (mod-lt b (zero-lt-suc 1)) (mod-lt c (zero-lt-suc 1))
-              ∙ sym (xor-odd a (bitXor b c) ∙ ap (bitXor (a % 2)) (xor-odd b c)))
-        ∙ sym (split2 (bitXor a (bitXor b c))))
+    split2 (bitXor (bitXor a b) c)
+    ∙ ap₂ (λ (x y : ℕ). x * 2 + y)
+    (xor-half (bitXor a b) c ∙ ap (λ (x : ℕ). bitXor x (c / 2)) (xor-half a b) ∙ ih (b / 2) (c / 2)
+    ∙ sym (xor-half a (bitXor b c) ∙ ap (bitXor (a / 2)) (xor-half b c)))
+    (xor-odd (bitXor a b) c ∙ ap (λ (x : ℕ). bitXor x (c % 2)) (xor-odd a b)
+    ∙ digit-assoc (a % 2) (b % 2) (c % 2) (mod-lt a (zero-lt-suc 1)) (mod-lt b (zero-lt-suc 1)) (mod-lt c (zero-lt-suc 1))
+    ∙ sym (xor-odd a (bitXor b c) ∙ ap (bitXor (a % 2)) (xor-odd b c)))
+    ∙ sym (split2 (bitXor a (bitXor b c))))
 
 pub xor-cancel : (a b : ℕ) → bitXor a (bitXor a b) ≡ b
 xor-cancel a b = sym (xor-assoc a a b) ∙ ap (λ (x : ℕ). bitXor x b) (xor-self a)
