@@ -216,13 +216,13 @@ module _ (m R : ℕ) (hR : R < 2 ^ suc m) where
 
 -- ---- times x, place by place
 
-half-place : (m v k : ℕ) → k < m → coeffOf m (v / 2) (suc k) ≡ coeffOf m v k
+pub half-place : (m v k : ℕ) → k < m → coeffOf m (v / 2) (suc k) ≡ coeffOf m v k
 unfolding coeffOf
 half-place m v k h =
     let e : 1 + (m - suc k) ≡ m - k = omega arith in
     ap (λ (x : ℕ). x % 2) (shr-shr v 1 (m - suc k) ∙ ap (λ (x : ℕ). v / 2 ^ x) e)
 
-half-place-0 : (m v : ℕ) → v < 2 ^ suc m → coeffOf m (v / 2) 0 ≡ 0
+pub half-place-0 : (m v : ℕ) → v < 2 ^ suc m → coeffOf m (v / 2) 0 ≡ 0
 unfolding coeffOf
 half-place-0 m v hv =
     ap (λ (x : ℕ). v / 2 / 2 ^ x % 2) (sub-zero m)
