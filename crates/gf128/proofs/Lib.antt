@@ -1,3 +1,4 @@
 pub mod Xor
 pub mod Places
 pub mod Nibbles
+pub mod Ring
