@@ -2,3 +2,5 @@ pub mod Xor
 pub mod Places
 pub mod Nibbles
 pub mod Ring
+pub mod Squaring
+pub mod Inverse
