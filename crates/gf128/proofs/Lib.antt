@@ -4,3 +4,4 @@ pub mod Nibbles
 pub mod Ring
 pub mod Squaring
 pub mod Inverse
+pub mod Frobenius
