@@ -14,16 +14,13 @@ use lib.Dec.{T, eqb, eqb→eq, lit<}
 use lib.Pow.{pow-add, shr-shr, shl-shr, shr-lt, split}
 use Rattle.gf128.specs.Field.{timesXOf, timesX, shiftedOf, shifted, reduction, one}
 use Rattle.gf128.proofs.Xor.{xor-half, xor-odd, xor-shl, xor-swap4}
-use Rattle.gf128.proofs.Places.{and-left, and-right, digit-ind, digit-xor, mod2-lt, shiftedOf-add, shiftedOf-timesX}
+use Rattle.gf128.proofs.Places.{reduction-lt, and-left, and-right, digit-ind, digit-xor, mod2-lt, shiftedOf-add, shiftedOf-timesX}
 use Rattle.gf128.proofs.Nibbles.{shiftedOf-one, productOf-place}
 use Rattle.gf128.proofs.Ring.{additive-same}
 use Rattle.gf128.proofs.Squaring.{squareOf, squaresOf, square-xor, squares-lt, squares-identity}
 
 abbrev square : ℕ → ℕ
 square = squareOf 127 reduction
-
-pub reduction-lt : reduction < 2 ^ 128
-reduction-lt = lit< tt
 
 -- ---- additive maps that compute fast
 

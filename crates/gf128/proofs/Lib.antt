@@ -5,3 +5,6 @@ pub mod Ring
 pub mod Squaring
 pub mod Inverse
 pub mod Frobenius
+pub mod Field
+pub mod Solve
+pub mod Differ

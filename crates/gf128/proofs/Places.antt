@@ -264,6 +264,9 @@ allBelow-at (suc n) p t k h =
     (λ l. allBelow-at n p (and-right (p n) (allBelow n p) t) k l)
     (eq-or-lt-of-le (le-of-suc-le-suc h))
 
+pub reduction-lt : reduction < 2 ^ 128
+reduction-lt = lit< tt
+
 -- GHASH's places, in document 01's words: those that are flipped if the coefficient from place 127 was 1
 abbrev pub flips : ℕ → ℕ
 flips k = cond (eqb k 0 || (eqb k 1 || (eqb k 2 || eqb k 7))) 1 0

@@ -5,7 +5,7 @@ use Prim.Native.Nat.{ℕ, zero, suc, _+_, _*_, _/_, _%_, _^_, _<_}
 use native.Mathlib.Nat.{add-zero, mod-lt, zero-lt-suc, le-of-suc-le-suc, not-suc-le-zero}
 use lib.Arith.{bin-ind}
 use lib.Pow.{pow-pos}
-use lib.Bits.{bitXor, xor-block, xor-shr, xor-mod, xor-comm, xor-self}
+use lib.Bits.{bitXor, xor-block, xor-shr, xor-mod, xor-comm, xor-self, xor-zero-r}
 
 -- the digits of a xor
 pub xor-half : (a b : ℕ) → bitXor a b / 2 ≡ bitXor (a / 2) (b / 2)
@@ -42,6 +42,13 @@ xor-assoc =
 
 pub xor-cancel : (a b : ℕ) → bitXor a (bitXor a b) ≡ b
 xor-cancel a b = sym (xor-assoc a a b) ∙ ap (λ (x : ℕ). bitXor x b) (xor-self a)
+
+-- two numbers whose xor is zero are equal
+pub xor-zero-eq : (a b : ℕ) → bitXor a b ≡ 0 → a ≡ b
+xor-zero-eq a b e = sym (xor-zero-r a) ∙ ap (bitXor a) (sym e) ∙ xor-cancel a b
+
+pub xor-cancel-right : (a b : ℕ) → bitXor (bitXor a b) b ≡ a
+xor-cancel-right a b = xor-assoc a b b ∙ ap (bitXor a) (xor-self b) ∙ xor-zero-r a
 
 pub xor-swap4 : (a b c d : ℕ) → bitXor (bitXor a b) (bitXor c d) ≡ bitXor (bitXor a c) (bitXor b d)
 xor-swap4 a b c d =
