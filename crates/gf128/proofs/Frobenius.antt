@@ -1,6 +1,6 @@
--- Three computed facts of GHASH's field, and what follows from them: `quick-square` (a quick squaring is the squaring), `squares-back`
--- (128 squarings bring every block back) and `own-squares` (only zero and one are their own squares). Each fact is computed at x or
--- at the powers of x, places 0 to 127, and holds for every block since both sides are additive. Assumes nothing.
+-- GHASH's field: 128 squarings bring every block back (`squares-back`), and only zero and one are their own squares (`own-squares`).
+-- Three computed facts carry it, each at x or at its powers, places 0 to 127: a quick squaring is the squaring; 128 of them bring x
+-- back; v xor its square tells v. What holds at the powers holds at every block, since both sides are additive. Assumes nothing.
 use mathlib.Core.Path.{_≡_, refl, sym, ap, ap₂, _∙_, subst, subst₂}
 use mathlib.Core.Bool.{Bool, true, _&&_}
 use mathlib.Core.List.{List, [], _∷_}
@@ -171,6 +171,7 @@ squares-back =
 
 -- ---- the third fact: v xor its square tells v, but for coefficient 0
 
+-- what each digit of v xor its square adds to v, the lowest digit first: found by elimination, and right by the test below
 solved : List ℕ
 solved =
     0x0 ∷ 0x4a2ade42a1db558927495c4d4e62fc1 ∷ 0x35bd0e43ef6cf78dcef750ee63bd3171 ∷ 0x41d77801d619af2a38dab35b297373a6 ∷
@@ -232,7 +233,9 @@ solve-square =
 
 -- a number with no digit below m
 top-only : (m e : ℕ) → e < 2 ^ suc m → e % 2 ^ m ≡ 0 → (e ≡ 0) ⊎ (e ≡ 2 ^ m)
-top-only m e l z = subst (λ (x : ℕ). (x ≡ 0) ⊎ (x ≡ 2 ^ m)) whole (digit-ind (λ c. (c * 2 ^ m ≡ 0) ⊎ (c * 2 ^ m ≡ 2 ^ m)) (inl (zero-mul (2 ^ m))) (inr (one-mul (2 ^ m))) (e / 2 ^ m) digit)
+top-only m e l z =
+    subst (λ (x : ℕ). (x ≡ 0) ⊎ (x ≡ 2 ^ m)) whole
+    (digit-ind (λ c. (c * 2 ^ m ≡ 0) ⊎ (c * 2 ^ m ≡ 2 ^ m)) (inl (zero-mul (2 ^ m))) (inr (one-mul (2 ^ m))) (e / 2 ^ m) digit)
   where
     whole : e / 2 ^ m * 2 ^ m ≡ e
     whole = sym (add-zero (e / 2 ^ m * 2 ^ m)) ∙ ap (λ (x : ℕ). e / 2 ^ m * 2 ^ m + x) (sym z) ∙ split e m

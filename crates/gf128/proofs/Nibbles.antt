@@ -33,7 +33,7 @@ shiftedOf-overflow R v j =
     ∙ shiftedOf-xor R (v / 2 ^ j * 2 ^ j) (v % 2 ^ j) j
     ∙ ap (λ (x : ℕ). bitXor x (shiftedOf R (v % 2 ^ j) j)) (shiftedOf-multiple R (v / 2 ^ j) j)
 
--- one, k places later: n + d is the last place
+-- one, k places later: k + d is the last place
 pub shiftedOf-one : (R m k d : ℕ) → k + d ≡ m → shiftedOf R (2 ^ m) k ≡ 2 ^ d
 shiftedOf-one R m k d e =
     ap (λ (x : ℕ). shiftedOf R x k) (ap (λ (x : ℕ). 2 ^ x) (sym e) ∙ pow-add 2 k d ∙ mul-comm (2 ^ k) (2 ^ d)) ∙ shiftedOf-multiple R (2 ^ d) k

@@ -177,8 +177,7 @@ module _ (m R : ℕ) where
   productOf-map f fx ft u h = sumOf-map f fx ft u h (suc m)
 
   pub productOf-timesX : (u h : ℕ) → productOf m R u (timesXOf R h) ≡ timesXOf R (productOf m R u h)
-  unfolding productOf
-  productOf-timesX u h = sumOf-timesX u h (suc m)
+  productOf-timesX u h = sym (productOf-map (timesXOf R) (timesXOf-xor R) (λ v. refl) u h)
 
   pub productOf-shifted : (u h k : ℕ) → productOf m R u (shiftedOf R h k) ≡ shiftedOf R (productOf m R u h) k
   productOf-shifted u h k = shiftedOf-map R (productOf m R u) (productOf-timesX u) h k
@@ -291,7 +290,8 @@ timesX-place-0 v hv = timesXOf-place-0 127 reduction v hv ∙ ap (λ (x : ℕ). 
 low-digit : (x b d w : ℕ) → d < w → (x * 2 ^ w + b) / 2 ^ d % 2 ≡ b / 2 ^ d % 2
 low-digit x b d w h =
     let e : w ≡ suc (w - suc d) + d = omega arith in
-    ap (λ (n : ℕ). (n + b) / 2 ^ d % 2) (ap (λ (n : ℕ). x * 2 ^ n) e ∙ ap (λ (n : ℕ). x * n) (pow-add 2 (suc (w - suc d)) d) ∙ sym (mul-assoc x (2 ^ suc (w - suc d)) (2 ^ d)))
+    ap (λ (n : ℕ). (n + b) / 2 ^ d % 2)
+    (ap (λ (n : ℕ). x * 2 ^ n) e ∙ ap (λ (n : ℕ). x * n) (pow-add 2 (suc (w - suc d)) d) ∙ sym (mul-assoc x (2 ^ suc (w - suc d)) (2 ^ d)))
     ∙ ap (λ (n : ℕ). n % 2) (mul-add-div-right (pow-pos d) (x * 2 ^ suc (w - suc d)) b)
     ∙ block-odd x (w - suc d) (b / 2 ^ d)
 

@@ -1,4 +1,4 @@
--- Laws of xor on numbers that the kit lacks. Main results: `xor-assoc`, `xor-cancel`, `xor-swap4`.
+-- Laws of xor on numbers that the kit lacks. Main results: `xor-assoc`, `xor-cancel`, `xor-zero-eq`, `xor-swap4`, `xor-shl`.
 -- Assumes nothing.
 use mathlib.Core.Path.{_≡_, refl, sym, ap, ap₂, _∙_}
 use Prim.Native.Nat.{ℕ, zero, suc, _+_, _*_, _/_, _%_, _^_, _<_}
