@@ -133,3 +133,12 @@ module _ (m R : ℕ) where
       ∙ productOf-group j (k + d) (u / 2 ^ k % 2 ^ j) (u % 2 ^ k * 2 ^ d) h e (shl-lt k d (mod-lt u (pow-pos k)))
       ∙ ap (λ (x : ℕ). bitXor (productOf m R (u / 2 ^ k % 2 ^ j * 2 ^ (k + d)) h) (shiftedOf R (productOf m R x h) j))
       (mul-assoc (u % 2 ^ k) (2 ^ d) (2 ^ j) ∙ ap (λ (x : ℕ). u % 2 ^ k * x) (sym (pow-add 2 d j)))
+
+  -- the digits a * 2 ^ j + r, d places before the last
+  pub productOf-digits : (j d a r h : ℕ) → r < 2 ^ j
+      → productOf m R ((a * 2 ^ j + r) * 2 ^ d) h ≡ bitXor (productOf m R (a * 2 ^ j * 2 ^ d) h) (productOf m R (r * 2 ^ d) h)
+  productOf-digits j d a r h l =
+      let e : a * 2 ^ j * 2 ^ d ≡ a * 2 ^ (j + d) = mul-assoc a (2 ^ j) (2 ^ d) ∙ ap (λ (x : ℕ). a * x) (sym (pow-add 2 j d)) in
+      ap (λ (x : ℕ). productOf m R x h) (add-mul (a * 2 ^ j) r (2 ^ d) ∙ ap (λ (x : ℕ). x + r * 2 ^ d) e)
+      ∙ front (j + d) a (r * 2 ^ d) h (shl-lt j d l)
+      ∙ ap (λ (x : ℕ). bitXor (productOf m R x h) (productOf m R (r * 2 ^ d) h)) (sym e)

@@ -4,5 +4,6 @@ pub mod Differ
 pub mod Entries
 pub mod Field
 pub mod Hash
+pub mod Pieces
 pub mod Running
 pub mod StepBack

@@ -1,0 +1,36 @@
+-- The running hash of the code as a state of document 01, and what its calls answer.
+-- Assumes nothing.
+use mathlib.Core.Path.{_≡_}
+use Prim.Native.Nat.{ℕ}
+use Rattle.field.specs.Block.{valueOf}
+use Rattle.gf128.specs.Running as gf128
+use Rattle.gf128.specs.Running.{State}
+use Rattle.ghash.specs.declared.running.Running.{Running}
+use Rattle.ghash.specs.declared.running.Part.{Part}
+use Rattle.ghash.specs.declared.running.Fed.{Fed}
+use Rattle.ghash.specs.declared.running.Finished.{Finished}
+
+abbrev pub view : Running → State
+view s =
+    record { y = valueOf (s .y); block = s .«open_block»; countA = s .«a_count»; countC = s .«c_count»; phase = s .phase }
+
+-- Y and the open block
+abbrev pub partOf : Part → gf128.Part
+partOf p = record { y = valueOf (p .y); block = p .bytes }
+
+-- Y with no byte open
+abbrev pub opened : ℕ → gf128.Part
+opened y = record { y = y; block = gf128.noBytes }
+
+-- a call that feeds answers the number and the state after it; a refusal gives back the very state that came in
+pub record Feeds (number : ℕ) (after : State) (before : Running) (r : Fed) : Type 0 where
+  pub answer : r .number ≡ number
+  pub state : view (r .state) ≡ after
+  pub kept : (number ≡ 0 → ⊥) → r .state ≡ before
+
+-- a call that finishes answers the block too
+pub record Finishes (number : ℕ) (after : State) (block : ℕ) (before : Running) (r : Finished) : Type 0 where
+  pub answer : r .number ≡ number
+  pub state : view (r .state) ≡ after
+  pub hash : valueOf (r .block) ≡ block
+  pub kept : (number ≡ 0 → ⊥) → r .state ≡ before
