@@ -14,11 +14,11 @@ use Rattle.ghash.specs.declared.running.Finished.{Finished}
 
 -- `number` is what document 01 gives, `new` the state where nothing is refused
 module _ (number : ℕ) (new : State) (s : Running) where
-  pub feed-refused : (n : ℕ) → number ≡ suc n → Feeds number (cond (eqb number 0) new (view s)) s (record { number = suc n; state = s })
+  pub feed-refused : (n : ℕ) → number ≡ suc n → Feeds number (cond (eqb number 0) new (view s)) s (suc n) s
   feed-refused n e =
       record { answer = sym e; state = rw (ne-eqb number 0 (λ z. omega arith)); kept = λ _. refl }
 
-  pub feed-taken : (t : Running) → number ≡ 0 → view t ≡ new → Feeds number (cond (eqb number 0) new (view s)) s (record { number = 0; state = t })
+  pub feed-taken : (t : Running) → number ≡ 0 → view t ≡ new → Feeds number (cond (eqb number 0) new (view s)) s 0 t
   feed-taken t e v = record { answer = sym e; state = rw (eq-eqb number 0 e) v; kept = λ f. absurd (f e) }
 
   pub finish-refused : (n : ℕ) (r : Finished) → number ≡ suc n → (r .number ≡ suc n) × (r .state ≡ s) × (valueOf (r .block) ≡ 0)

@@ -7,7 +7,6 @@ use Rattle.gf128.specs.Running as gf128
 use Rattle.gf128.specs.Running.{State}
 use Rattle.ghash.specs.declared.running.Running.{Running}
 use Rattle.ghash.specs.declared.running.Part.{Part}
-use Rattle.ghash.specs.declared.running.Fed.{Fed}
 use Rattle.ghash.specs.declared.running.Finished.{Finished}
 
 abbrev pub view : Running → State
@@ -22,11 +21,11 @@ partOf p = record { y = valueOf (p .y); block = p .bytes }
 abbrev pub opened : ℕ → gf128.Part
 opened y = record { y = y; block = gf128.noBytes }
 
--- a call that feeds answers the number and the state after it; a refusal gives back the very state that came in
-pub record Feeds (number : ℕ) (after : State) (before : Running) (r : Fed) : Type 0 where
-  pub answer : r .number ≡ number
-  pub state : view (r .state) ≡ after
-  pub kept : (number ≡ 0 → ⊥) → r .state ≡ before
+-- a call that feeds answers the number n and the running hash t; a refusal gives back the very one that came in
+pub record Feeds (number : ℕ) (after : State) (before : Running) (n : ℕ) (t : Running) : Type 0 where
+  pub answer : n ≡ number
+  pub state : view t ≡ after
+  pub kept : (number ≡ 0 → ⊥) → t ≡ before
 
 -- a call that finishes answers the block too
 pub record Finishes (number : ℕ) (after : State) (block : ℕ) (before : Running) (r : Finished) : Type 0 where

@@ -211,7 +211,7 @@ fn started_c(path: Path, key: Key, t: &[u64; 80], state: Running) -> Part
 
 fn fed_a_on(path: Path, state: Running, key: &[u8], piece: &[u8]) -> Fed
     ensures { λ r. ⌜ Feeds (feedARefusal (now (key .entry)) (view state) (now (piece .entry)))
-        (afterFeedA (now (key .entry)) (view state) (now (piece .entry))) state r ⌝ }
+        (afterFeedA (now (key .entry)) (view state) (now (piece .entry))) state (r .number) (r .state) ⌝ }
 {
     if key.len() != 16 {
         return Fed { number: 9, state };
@@ -250,7 +250,7 @@ fn fed_a_on(path: Path, state: Running, key: &[u8], piece: &[u8]) -> Fed
 // Feeds a piece of A on the plain path. Document 01's number; on a refusal the running hash comes back as it was.
 pub fn fed_a_plain(state: Running, key: &[u8], piece: &[u8]) -> Fed
     ensures { λ r. ⌜ Feeds (feedARefusal (now (key .entry)) (view state) (now (piece .entry)))
-        (afterFeedA (now (key .entry)) (view state) (now (piece .entry))) state r ⌝ }
+        (afterFeedA (now (key .entry)) (view state) (now (piece .entry))) state (r .number) (r .state) ⌝ }
 {
     fed_a_on(Path::Plain, state, key, piece)
 }
@@ -258,14 +258,14 @@ pub fn fed_a_plain(state: Running, key: &[u8], piece: &[u8]) -> Fed
 // The same on the fast path.
 pub fn fed_a_fast(state: Running, key: &[u8], piece: &[u8]) -> Fed
     ensures { λ r. ⌜ Feeds (feedARefusal (now (key .entry)) (view state) (now (piece .entry)))
-        (afterFeedA (now (key .entry)) (view state) (now (piece .entry))) state r ⌝ }
+        (afterFeedA (now (key .entry)) (view state) (now (piece .entry))) state (r .number) (r .state) ⌝ }
 {
     fed_a_on(Path::Fast, state, key, piece)
 }
 
 fn fed_c_on(path: Path, state: Running, key: &[u8], piece: &[u8]) -> Fed
     ensures { λ r. ⌜ Feeds (feedCRefusal (now (key .entry)) (view state) (now (piece .entry)))
-        (afterFeedC (now (key .entry)) (view state) (now (piece .entry))) state r ⌝ }
+        (afterFeedC (now (key .entry)) (view state) (now (piece .entry))) state (r .number) (r .state) ⌝ }
 {
     if key.len() != 16 {
         return Fed { number: 9, state };
@@ -302,7 +302,7 @@ fn fed_c_on(path: Path, state: Running, key: &[u8], piece: &[u8]) -> Fed
 // Feeds a piece of C on the plain path; the first, even of length 0, ends A.
 pub fn fed_c_plain(state: Running, key: &[u8], piece: &[u8]) -> Fed
     ensures { λ r. ⌜ Feeds (feedCRefusal (now (key .entry)) (view state) (now (piece .entry)))
-        (afterFeedC (now (key .entry)) (view state) (now (piece .entry))) state r ⌝ }
+        (afterFeedC (now (key .entry)) (view state) (now (piece .entry))) state (r .number) (r .state) ⌝ }
 {
     fed_c_on(Path::Plain, state, key, piece)
 }
@@ -310,7 +310,7 @@ pub fn fed_c_plain(state: Running, key: &[u8], piece: &[u8]) -> Fed
 // The same on the fast path.
 pub fn fed_c_fast(state: Running, key: &[u8], piece: &[u8]) -> Fed
     ensures { λ r. ⌜ Feeds (feedCRefusal (now (key .entry)) (view state) (now (piece .entry)))
-        (afterFeedC (now (key .entry)) (view state) (now (piece .entry))) state r ⌝ }
+        (afterFeedC (now (key .entry)) (view state) (now (piece .entry))) state (r .number) (r .state) ⌝ }
 {
     fed_c_on(Path::Fast, state, key, piece)
 }
