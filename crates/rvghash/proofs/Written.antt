@@ -1,0 +1,58 @@
+-- What is written to `out`, and what a finishing call gives back, go from the by-value answers to the C functions' promises.
+-- Assumes nothing.
+use mathlib.Core.Path.{_≡_, refl, sym, ap, _∙_}
+use mathlib.Core.Bool.{Bool, true, false, cond}
+use mathlib.Core.List.{List, [], _++_, append-nil}
+use Prim.Native.Nat.{ℕ, _+_, _≤_}
+use native.Mathlib.Omega.{arith}
+use borrow.Author.Tests.{eq-eqb, ne-eqb, le-leb}
+use lib.Dec.{eqb}
+use lib.ListN.{length, drop, drop-of-length-le}
+use lib.Seq.{sets, sets-eq}
+use Rattle.field.specs.Block.{valueOf}
+use Rattle.field.specs.declared.product.Answer.{Answer}
+use Rattle.gf128.specs.Bytes.{blockBytes, putBlock}
+use Rattle.gf128.specs.Running.{State, finishRefusal, afterFinish, finishBlock}
+use Rattle.gf128.proofs.Bytes.{length-beBytes}
+use Rattle.ghash.specs.Running.{view, Feeds, Finishes}
+use Rattle.ghash.specs.declared.running.Running.{Running}
+use Rattle.ghash.specs.declared.running.Finished.{Finished}
+use Rattle.rvghash.specs.Lent.{stateFor}
+use Rattle.rvghash.specs.Out.{outNumber, outBytes, finishNumber, finishState, finishOut}
+
+-- an `out` of another length: 9, and nothing is written
+pub out-other : (out : List ℕ) (n v : ℕ) → (length out ≡ 16 → ⊥) → (9 ≡ outNumber out n) × (out ≡ outBytes out v)
+out-other out n v f = rw (ne-eqb (length out) 16 f) (refl, refl)
+
+whole : (out : List ℕ) (v : ℕ) → length out ≡ 16 → sets out 0 (blockBytes v) ≡ blockBytes v
+whole out v e =
+    let l : length (blockBytes v) ≡ 16 = length-beBytes 16 v in
+    sets-eq (blockBytes v) out 0 (omega arith)
+    ∙ ap (λ (r : List ℕ). blockBytes v ++ r) (drop-of-length-le out {i = 0 + length (blockBytes v)} (omega arith))
+    ∙ append-nil (blockBytes v)
+
+-- an `out` of 16 bytes: the number, and the block's bytes
+pub out-put : (out : List ℕ) (n v : ℕ) → length out ≡ 16 → (n ≡ outNumber out n) × (putBlock out 0 v ≡ outBytes out v)
+out-put out n v e = rw (eq-eqb (length out) 16 e, le-leb 16 (length out) (omega arith)) (refl, whole out v e)
+
+-- an answer's promise, once its block is put to `out`
+pub answered : (out out′ : List ℕ) (n : ℕ) (a : Answer) (number block : ℕ)
+    → (a .number ≡ number) × (valueOf (a .block) ≡ block)
+    → (n ≡ outNumber out (a .number)) × (out′ ≡ outBytes out (valueOf (a .block)))
+    → (n ≡ outNumber out number) × (out′ ≡ outBytes out block)
+answered out out′ n a number block p q = (q .0 ∙ ap (outNumber out) (p .0), q .1 ∙ ap (outBytes out) (p .1))
+
+-- a finishing call whose block is put to `out`, where b says that `out` is 16 bytes long
+into : (b : Bool) (number : ℕ) (after : State) (block : ℕ) (s : Running) (f : Finished) (n : ℕ) (t : Running)
+    → Finishes number after block s f → n ≡ cond b (f .number) 9 → t ≡ cond b (f .state) s
+    → Feeds (cond b number 9) (cond b after (view s)) s n t
+into true number after block s f n t h p q =
+    record { answer = p ∙ h .answer; state = ap view q ∙ h .state; kept = λ e. q ∙ h .kept e }
+into false number after block s f n t h p q = record { answer = p; state = ap view q; kept = λ e. q }
+
+pub finish-into : (key : List ℕ) (s : Running) (out : List ℕ) (f : Finished) (n : ℕ) (t : Running) (out′ : List ℕ)
+    → Finishes (finishRefusal key (view s)) (afterFinish key (view s)) (finishBlock key (view s)) s f
+    → (n ≡ outNumber out (f .number)) × (t ≡ stateFor out (f .state) s) × (out′ ≡ outBytes out (valueOf (f .block)))
+    → Feeds (finishNumber key (view s) out) (finishState key (view s) out) s n t × (out′ ≡ finishOut key (view s) out)
+finish-into key s out f n t out′ h p =
+    (into (eqb (length out) 16) (finishRefusal key (view s)) (afterFinish key (view s)) (finishBlock key (view s)) s f n t h (p .0) (p .1), p .2 ∙ ap (outBytes out) (h .hash))

@@ -1,0 +1,38 @@
+// The products, the step back and the degree.
+ghost use mathlib.Core.Path.{_≡_};
+ghost use Rattle.rvghash.specs.Out.{outNumber, outBytes, degreeNumber, degreePlace};
+ghost use Rattle.gf128.specs.Entries.{productRefusal, productBlock};
+use crate::out::put_answer;
+use field::block::block_at;
+use field::block::degree;
+use field::fast::product_fast_bytes;
+use field::product::product_plain_bytes;
+
+#[no_mangle]
+pub extern "C" fn rvghash_product_plain(key: &[u8], block: &[u8], out: &mut [u8]) -> u32
+    ensures { λ r. ⌜ (r ≡ outNumber (now (out .entry)) (productRefusal (now (key .entry)) (now (block .entry))))
+        × (now (out .exit) ≡ outBytes (now (out .entry)) (productBlock (now (key .entry)) (now (block .entry)))) ⌝ }
+{
+    put_answer(product_plain_bytes(key, block), out)
+}
+
+#[no_mangle]
+pub extern "C" fn rvghash_product_fast(key: &[u8], block: &[u8], out: &mut [u8]) -> u32
+    ensures { λ r. ⌜ (r ≡ outNumber (now (out .entry)) (productRefusal (now (key .entry)) (now (block .entry))))
+        × (now (out .exit) ≡ outBytes (now (out .entry)) (productBlock (now (key .entry)) (now (block .entry)))) ⌝ }
+{
+    put_answer(product_fast_bytes(key, block), out)
+}
+
+#[no_mangle]
+pub extern "C" fn rvghash_degree(block: &[u8], degree: &mut u32) -> u32
+    ensures { λ r. ⌜ (r ≡ degreeNumber (now (block .entry))) × (now (degree .exit) ≡ degreePlace (now (block .entry))) ⌝ }
+{
+    if block.len() != 16 {
+        *degree = 0;
+        return 9;
+    }
+    let d = field::block::degree(block_at(block, 0));
+    *degree = d.place;
+    d.number
+}

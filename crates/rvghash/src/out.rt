@@ -1,0 +1,18 @@
+// Writing a block to a lent `out`.
+ghost use mathlib.Core.Path.{_≡_};
+ghost use Rattle.field.specs.Block.{valueOf};
+ghost use Rattle.rvghash.specs.Out.{outNumber, outBytes};
+use field::block::put_block;
+use field::product::Answer;
+
+// Writes an answer's block to `out`, and gives its number; an `out` not 16 bytes long is 9, and nothing is written.
+pub fn put_answer(answer: Answer, out: &mut [u8]) -> u32
+    ensures { λ r. ⌜ (r ≡ outNumber (now (out .entry)) (answer .number))
+        × (now (out .exit) ≡ outBytes (now (out .entry)) (valueOf (answer .block))) ⌝ }
+{
+    if out.len() != 16 {
+        return 9;
+    }
+    put_block(out, 0, answer.block);
+    answer.number
+}

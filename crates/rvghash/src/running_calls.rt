@@ -1,0 +1,131 @@
+// The running hash that the caller lends, updated where it lies. Each function hands it by value to one that does the work.
+ghost use mathlib.Core.Path.{_≡_};
+ghost use Rattle.gf128.specs.Running.{fresh, feedARefusal, feedCRefusal, afterFeedA, afterFeedC};
+ghost use Rattle.ghash.specs.Running.{view, Feeds};
+ghost use Rattle.field.specs.Block.{valueOf};
+ghost use Rattle.rvghash.specs.Out.{outNumber, outBytes, finishNumber, finishState, finishOut};
+ghost use Rattle.rvghash.specs.Lent.{stateFor};
+use crate::out::put_answer;
+use field::product::Answer;
+use ghash::running::Fed;
+use ghash::running::Finished;
+use ghash::running::Running;
+use ghash::running::fed_a_fast;
+use ghash::running::fed_a_plain;
+use ghash::running::fed_c_fast;
+use ghash::running::fed_c_plain;
+use ghash::running::finished_fast;
+use ghash::running::finished_plain;
+
+// Makes the lent running hash a fresh one.
+#[no_mangle]
+pub extern "C" fn rvghash_running_new(state: &mut Running)
+    ensures { λ _. ⌜ view (now (state .exit)) ≡ fresh ⌝ }
+{
+    *state = Running::new();
+}
+
+// Takes a piece of A.
+#[no_mangle]
+pub extern "C" fn rvghash_feed_a(state: &mut Running, key: &[u8], piece: &[u8]) -> u32
+    ensures { λ r. ⌜ Feeds (feedARefusal (now (key .entry)) (view (now (state .entry))) (now (piece .entry)))
+        (afterFeedA (now (key .entry)) (view (now (state .entry))) (now (piece .entry))) (now (state .entry)) r (now (state .exit)) ⌝ }
+{
+    let f = fed_a_fast(*state, key, piece);
+    *state = f.state;
+    f.number
+}
+
+// The same on the plain path.
+#[no_mangle]
+pub extern "C" fn rvghash_feed_a_plain(state: &mut Running, key: &[u8], piece: &[u8]) -> u32
+    ensures { λ r. ⌜ Feeds (feedARefusal (now (key .entry)) (view (now (state .entry))) (now (piece .entry)))
+        (afterFeedA (now (key .entry)) (view (now (state .entry))) (now (piece .entry))) (now (state .entry)) r (now (state .exit)) ⌝ }
+{
+    let f = fed_a_plain(*state, key, piece);
+    *state = f.state;
+    f.number
+}
+
+// Takes a piece of C.
+#[no_mangle]
+pub extern "C" fn rvghash_feed_c(state: &mut Running, key: &[u8], piece: &[u8]) -> u32
+    ensures { λ r. ⌜ Feeds (feedCRefusal (now (key .entry)) (view (now (state .entry))) (now (piece .entry)))
+        (afterFeedC (now (key .entry)) (view (now (state .entry))) (now (piece .entry))) (now (state .entry)) r (now (state .exit)) ⌝ }
+{
+    let f = fed_c_fast(*state, key, piece);
+    *state = f.state;
+    f.number
+}
+
+// The same on the plain path.
+#[no_mangle]
+pub extern "C" fn rvghash_feed_c_plain(state: &mut Running, key: &[u8], piece: &[u8]) -> u32
+    ensures { λ r. ⌜ Feeds (feedCRefusal (now (key .entry)) (view (now (state .entry))) (now (piece .entry)))
+        (afterFeedC (now (key .entry)) (view (now (state .entry))) (now (piece .entry))) (now (state .entry)) r (now (state .exit)) ⌝ }
+{
+    let f = fed_c_plain(*state, key, piece);
+    *state = f.state;
+    f.number
+}
+
+// Finishes a running hash that came by value, and writes the hash to `out`.
+fn finished_into(f: Finished, state: Running, out: &mut [u8]) -> Fed
+    ensures { λ r. ⌜ (r .number ≡ outNumber (now (out .entry)) (f .number))
+        × (r .state ≡ stateFor (now (out .entry)) (f .state) state)
+        × (now (out .exit) ≡ outBytes (now (out .entry)) (valueOf (f .block))) ⌝ }
+{
+    if out.len() != 16 {
+        return Fed { number: 9, state };
+    }
+    let after = f.state;
+    let block = f.block;
+    let answer = Answer {
+        number: f.number,
+        block,
+    };
+    Fed {
+        number: put_answer(answer, out),
+        state: after,
+    }
+}
+
+fn finished_into_fast(state: Running, key: &[u8], out: &mut [u8]) -> Fed
+    ensures { λ r. ⌜ Feeds (finishNumber (now (key .entry)) (view state) (now (out .entry)))
+        (finishState (now (key .entry)) (view state) (now (out .entry))) state (r .number) (r .state)
+        × (now (out .exit) ≡ finishOut (now (key .entry)) (view state) (now (out .entry))) ⌝ }
+{
+    finished_into(finished_fast(state, key), state, out)
+}
+
+fn finished_into_plain(state: Running, key: &[u8], out: &mut [u8]) -> Fed
+    ensures { λ r. ⌜ Feeds (finishNumber (now (key .entry)) (view state) (now (out .entry)))
+        (finishState (now (key .entry)) (view state) (now (out .entry))) state (r .number) (r .state)
+        × (now (out .exit) ≡ finishOut (now (key .entry)) (view state) (now (out .entry))) ⌝ }
+{
+    finished_into(finished_plain(state, key), state, out)
+}
+
+// Finishes the lent running hash, and writes the hash to `out`.
+#[no_mangle]
+pub extern "C" fn rvghash_finish(state: &mut Running, key: &[u8], out: &mut [u8]) -> u32
+    ensures { λ r. ⌜ Feeds (finishNumber (now (key .entry)) (view (now (state .entry))) (now (out .entry)))
+        (finishState (now (key .entry)) (view (now (state .entry))) (now (out .entry))) (now (state .entry)) r (now (state .exit))
+        × (now (out .exit) ≡ finishOut (now (key .entry)) (view (now (state .entry))) (now (out .entry))) ⌝ }
+{
+    let f = finished_into_fast(*state, key, out);
+    *state = f.state;
+    f.number
+}
+
+// The same on the plain path.
+#[no_mangle]
+pub extern "C" fn rvghash_finish_plain(state: &mut Running, key: &[u8], out: &mut [u8]) -> u32
+    ensures { λ r. ⌜ Feeds (finishNumber (now (key .entry)) (view (now (state .entry))) (now (out .entry)))
+        (finishState (now (key .entry)) (view (now (state .entry))) (now (out .entry))) (now (state .entry)) r (now (state .exit))
+        × (now (out .exit) ≡ finishOut (now (key .entry)) (view (now (state .entry))) (now (out .entry))) ⌝ }
+{
+    let f = finished_into_plain(*state, key, out);
+    *state = f.state;
+    f.number
+}
