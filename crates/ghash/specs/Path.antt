@@ -6,7 +6,7 @@ use Rattle.field.specs.declared.block.Key.{Key}
 use Rattle.ghash.specs.declared.hash.Path.{Path}
 use Rattle.ghash.specs.declared.hash.Path.the-variants.{Plain, Fast}
 use Rattle.field.specs.Block.{keyOf}
-use Rattle.field.specs.Table.{TableOf}
+use Rattle.fast.specs.Table.{TableOf}
 
 abbrev pub tablesFor : Path → ℕ → List ℕ → Type 0
 tablesFor Plain h t = Unit {0}

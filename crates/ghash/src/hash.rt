@@ -10,8 +10,8 @@ use field::block::Block;
 use field::block::Key;
 use field::block::block_at;
 use field::block::key_at_start;
-use field::fast::fill_tables;
-use field::fast::product_fast;
+use fast::fill_tables;
+use fast::product_fast;
 use field::product::Answer;
 use field::product::product_plain;
 

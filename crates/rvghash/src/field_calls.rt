@@ -5,7 +5,7 @@ ghost use Rattle.gf128.specs.Entries.{productRefusal, productBlock};
 use crate::out::put_answer;
 use field::block::block_at;
 use field::block::degree;
-use field::fast::product_fast_bytes;
+use fast::product_fast_bytes;
 use field::product::product_plain_bytes;
 
 #[no_mangle]

@@ -1,0 +1,166 @@
+// The fast product: four coefficients at a time, with the key's multiples in tables.
+//
+// U·H is U_high·H xor U_low·(H·x^64), so that one chain of 16 steps serves both halves of U. A step takes four
+// coefficients of each half, from the last to the first: Z := Z·x^4 xor an entry of each table.
+ghost use mathlib.Core.Path.{_≡_};
+ghost use Prim.Native.Nat.{ℕ, _+_, _≤_, _<_};
+ghost use lib.Bits.{bitXor};
+ghost use lib.ListN.{length};
+ghost use lib.Seq.{sets};
+ghost use Rattle.field.specs.Block.{valueOf, keyOf};
+ghost use Rattle.fast.specs.Table.{TableOf, ReductionsIn, ReductionsPut, MultiplesPut, fourOf, nibble};
+ghost use Rattle.gf128.specs.Entries.{productRefusal, productBlock};
+ghost use Rattle.gf128.specs.Field.{product, shifted};
+use field::block::Block;
+use field::block::Key;
+use field::block::block_at;
+use field::block::key_at_start;
+use field::product::Answer;
+use field::product::times_x;
+
+// The sixteen reductions of a four-bit overflow: the high half of each. The low halves are zero.
+const REDUCTIONS: [u64; 16] = [
+    0x0000_0000_0000_0000,
+    0x1C20_0000_0000_0000,
+    0x3840_0000_0000_0000,
+    0x2460_0000_0000_0000,
+    0x7080_0000_0000_0000,
+    0x6CA0_0000_0000_0000,
+    0x48C0_0000_0000_0000,
+    0x54E0_0000_0000_0000,
+    0xE100_0000_0000_0000,
+    0xFD20_0000_0000_0000,
+    0xD940_0000_0000_0000,
+    0xC560_0000_0000_0000,
+    0x9180_0000_0000_0000,
+    0x8DA0_0000_0000_0000,
+    0xA9C0_0000_0000_0000,
+    0xB5E0_0000_0000_0000,
+];
+
+// Copies the reductions into the tables' last sixteen places: an indexed constant would be stored again at each use.
+fn put_reductions(t: &mut [u64])
+    requires { ⌜ length (now t) ≡ 80 ⌝ }
+    ensures { λ _. ⌜ ReductionsPut (now (t .entry)) (now (t .exit)) ⌝ }
+{
+    let r = REDUCTIONS;
+    let mut n: usize = 0;
+    while n < 16 {
+        t[64 + n] = r[n];
+        n += 1;
+    }
+}
+
+// z times x^4.
+fn times_x4(t: &[u64; 80], z: Block) -> Block
+    ensures { λ r. ⌜ (ReductionsIn (now (t .entry)) → valueOf r ≡ shifted (valueOf z) 4) ⌝ }
+{
+    let high = z.0;
+    let low = z.1;
+    let n = (low % 16) as usize;
+    Block(
+        (high / 16) ^ t[64 + n],
+        low / 16 + high % 16 * 0x1000_0000_0000_0000,
+    )
+}
+
+// Four entries, from `at` on: b, b xor h1, b xor h2, b xor h2 xor h1.
+fn put_four(t: &mut [u64], at: usize, b: Block, h1: Block, h2: Block)
+    requires { ⌜ at + 8 ≤ length (now t) ⌝ }
+    ensures { λ _. ⌜ now (t .exit) ≡ sets (now (t .entry)) at (fourOf b h1 h2) ⌝ }
+{
+    t[at] = b.0;
+    t[at + 1] = b.1;
+    t[at + 2] = b.0 ^ h1.0;
+    t[at + 3] = b.1 ^ h1.1;
+    t[at + 4] = b.0 ^ h2.0;
+    t[at + 5] = b.1 ^ h2.1;
+    t[at + 6] = b.0 ^ h2.0 ^ h1.0;
+    t[at + 7] = b.1 ^ h2.1 ^ h1.1;
+}
+
+// The sixteen multiples of h, from `at` on.
+fn put_multiples(t: &mut [u64], at: usize, h: Block)
+    requires { ⌜ at + 32 ≤ length (now t) ⌝ }
+    ensures { λ _. ⌜ MultiplesPut (now (t .entry)) at (valueOf h) 16 (now (t .exit)) ⌝ }
+{
+    let h4 = times_x(h);
+    let h2 = times_x(h4);
+    let h1 = times_x(h2);
+    put_four(t, at, Block(0, 0), h1, h2);
+    put_four(t, at + 8, h4, h1, h2);
+    put_four(t, at + 16, h, h1, h2);
+    put_four(t, at + 24, h.xor(h4), h1, h2);
+}
+
+// Fills the tables of a key.
+pub fn fill_tables(t: &mut [u64; 80], h: Key)
+    ensures { λ _. ⌜ TableOf (keyOf h) (now (t .exit)) ⌝ }
+{
+    put_reductions(t);
+    let mut v = Block(h.0, h.1);
+    put_multiples(t, 0, v);
+    let mut i: u64 = 0;
+    while i < 16 {
+        v = times_x4(t, v);
+        i += 1;
+    }
+    put_multiples(t, 32, v);
+}
+
+// z times x^4, plus an entry of each table.
+fn step(t: &[u64; 80], z: Block, a: u64, b: u64) -> Block
+    requires { ⌜ (a < 16) × (b < 16) ⌝ }
+    ensures { λ r. ⌜ ((h : ℕ) → TableOf h (now (t .entry))
+        → valueOf r ≡ bitXor (bitXor (shifted (valueOf z) 4) (product (nibble a) h)) (product (nibble b) (shifted h 64))) ⌝ }
+{
+    let i = (2 * a) as usize;
+    let j = (32 + 2 * b) as usize;
+    let entries = Block(t[i], t[i + 1]).xor(Block(t[j], t[j + 1]));
+    times_x4(t, z).xor(entries)
+}
+
+// U·H on the fast path, with the tables of H.
+pub fn product_fast(t: &[u64; 80], u: Block) -> Block
+    ensures { λ r. ⌜ ((h : ℕ) → TableOf h (now (t .entry)) → valueOf r ≡ product (valueOf u) h) ⌝ }
+{
+    let mut z = Block(0, 0);
+    let mut high = u.0;
+    let mut low = u.1;
+    let mut i: u64 = 0;
+    while i < 4 {
+        z = step(t, z, high % 16, low % 16);
+        z = step(t, z, high / 16 % 16, low / 16 % 16);
+        z = step(t, z, high / 256 % 16, low / 256 % 16);
+        z = step(t, z, high / 4096 % 16, low / 4096 % 16);
+        high = high / 65536;
+        low = low / 65536;
+        i += 1;
+    }
+    z
+}
+
+// The fast product of a key and a block given as bytes.
+pub fn product_fast_bytes(key: &[u8], block: &[u8]) -> Answer
+    ensures { λ r. ⌜ (r .number ≡ productRefusal (now (key .entry)) (now (block .entry)))
+        × (valueOf (r .block) ≡ productBlock (now (key .entry)) (now (block .entry))) ⌝ }
+{
+    if key.len() != 16 {
+        return Answer {
+            number: 9,
+            block: Block::ZERO,
+        };
+    }
+    if block.len() != 16 {
+        return Answer {
+            number: 9,
+            block: Block::ZERO,
+        };
+    }
+    let mut t = [0u64; 80];
+    fill_tables(&mut t, key_at_start(key));
+    Answer {
+        number: 0,
+        block: product_fast(&t, block_at(block, 0)),
+    }
+}
