@@ -8,6 +8,7 @@ pub mod Frobenius
 pub mod Hash
 pub mod Inverse
 pub mod Nibbles
+pub mod Parts
 pub mod Places
 pub mod Ring
 pub mod Running

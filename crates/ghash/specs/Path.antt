@@ -3,8 +3,8 @@
 use mathlib.Core.List.{List}
 use Prim.Native.Nat.{ℕ}
 use Rattle.field.specs.declared.block.Key.{Key}
-use Rattle.ghash.specs.declared.hash.Path.{Path}
-use Rattle.ghash.specs.declared.hash.Path.the-variants.{Plain, Fast}
+use Rattle.ghash.specs.declared.Path.{Path}
+use Rattle.ghash.specs.declared.Path.the-variants.{Plain, Fast}
 use Rattle.field.specs.Block.{keyOf}
 use Rattle.fast.specs.Table.{TableOf}
 

@@ -1,3 +1,117 @@
-// GHASH: the hash of a whole message and the running hash, on the plain and on the fast path.
-pub mod hash;
-pub mod running;
+// The hash of a whole message, A and C, on the plain and on the fast path.
+ghost use mathlib.Core.Path.{_≡_};
+ghost use Prim.Native.Nat.{_≤_};
+ghost use lib.ListN.{length};
+ghost use Rattle.field.specs.Block.{valueOf, keyOf};
+ghost use Rattle.ghash.specs.Path.{Serves};
+ghost use Rattle.gf128.specs.Entries.{hashRefusal, hashBlock};
+ghost use Rattle.gf128.specs.Hash.{next, over, blocksOf, lengthBlock};
+use fast::fill_tables;
+use fast::product_fast;
+use field::block::Block;
+use field::block::Key;
+use field::block::block_at;
+use field::block::key_at_start;
+use field::product::Answer;
+use field::product::product_plain;
+
+// Which product a call uses: the plain path is bit by bit, the fast path four coefficients at a time.
+pub enum Path {
+    Plain,
+    Fast,
+}
+
+// The most bytes that A may have, and C.
+pub const LIMIT: usize = 1048576;
+
+// The tables that a call on this path multiplies with; the plain path leaves them empty.
+pub fn tables_for(path: Path, key: Key) -> [u64; 80]
+    ensures { λ r. ⌜ Serves path key r ⌝ }
+{
+    let mut t = [0u64; 80];
+    match path {
+        Path::Plain => {}
+        Path::Fast => fill_tables(&mut t, key),
+    }
+    t
+}
+
+// One block: (Y xor X)·H.
+pub fn next(path: Path, key: Key, t: &[u64; 80], y: Block, x: Block) -> Block
+    ensures { λ r. ⌜ (Serves path key (now (t .entry)) → valueOf r ≡ next (keyOf key) (valueOf y) (valueOf x)) ⌝ }
+{
+    match path {
+        Path::Plain => product_plain(y.xor(x), key),
+        Path::Fast => product_fast(t, y.xor(x)),
+    }
+}
+
+// The partial hash after the blocks of s, padded with zeros, from y.
+pub fn over_blocks(path: Path, key: Key, t: &[u64; 80], y: Block, s: &[u8]) -> Block
+    ensures { λ r. ⌜ (Serves path key (now (t .entry)) → valueOf r ≡ over (keyOf key) (valueOf y) (blocksOf (now (s .entry)))) ⌝ }
+{
+    let mut hash = y;
+    let mut at: usize = 0;
+    while at < s.len() {
+        hash = next(path, key, t, hash, block_at(s, at));
+        at += 16;
+    }
+    hash
+}
+
+// The bit lengths of A and C, as one block.
+pub fn length_block(a: usize, c: usize) -> Block
+    requires { ⌜ (a ≤ 1048576) × (c ≤ 1048576) ⌝ }
+    ensures { λ r. ⌜ valueOf r ≡ lengthBlock a c ⌝ }
+{
+    Block(8 * a as u64, 8 * c as u64)
+}
+
+fn refused(number: u32) -> Answer
+    ensures { λ r. ⌜ (r .number ≡ number) × (valueOf (r .block) ≡ 0) ⌝ }
+{
+    Answer {
+        number,
+        block: Block::ZERO,
+    }
+}
+
+fn ghash_on(path: Path, key: &[u8], a: &[u8], c: &[u8]) -> Answer
+    ensures { λ r. ⌜ (r .number ≡ hashRefusal (now (key .entry)) (now (a .entry)) (now (c .entry)))
+        × (valueOf (r .block) ≡ hashBlock (now (key .entry)) (now (a .entry)) (now (c .entry))) ⌝ }
+{
+    if key.len() != 16 {
+        return refused(9);
+    }
+    if LIMIT < a.len() {
+        return refused(11);
+    }
+    if LIMIT < c.len() {
+        return refused(11);
+    }
+    let h = key_at_start(key);
+    let t = tables_for(path, h);
+    let after_a = over_blocks(path, h, &t, Block::ZERO, a);
+    let after_c = over_blocks(path, h, &t, after_a, c);
+    let hash = next(path, h, &t, after_c, length_block(a.len(), c.len()));
+    Answer {
+        number: 0,
+        block: hash,
+    }
+}
+
+// The hash of a whole A and C on the plain path.
+pub fn ghash_plain(key: &[u8], a: &[u8], c: &[u8]) -> Answer
+    ensures { λ r. ⌜ (r .number ≡ hashRefusal (now (key .entry)) (now (a .entry)) (now (c .entry)))
+        × (valueOf (r .block) ≡ hashBlock (now (key .entry)) (now (a .entry)) (now (c .entry))) ⌝ }
+{
+    ghash_on(Path::Plain, key, a, c)
+}
+
+// The hash of a whole A and C on the fast path.
+pub fn ghash_fast(key: &[u8], a: &[u8], c: &[u8]) -> Answer
+    ensures { λ r. ⌜ (r .number ≡ hashRefusal (now (key .entry)) (now (a .entry)) (now (c .entry)))
+        × (valueOf (r .block) ≡ hashBlock (now (key .entry)) (now (a .entry)) (now (c .entry))) ⌝ }
+{
+    ghash_on(Path::Fast, key, a, c)
+}

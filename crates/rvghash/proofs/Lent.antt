@@ -45,12 +45,12 @@ use denote.Triple.Call.{calls-at}
 use denote.Triple.Clauses.{Ended, Clauses, Lasts, ensured, closing}
 use denote.Triple.Table.{entered, cited}
 use denote.Triple.Walked.{says, Stay, Stays, stay-ref, walkOf, Goes, goes-ref, ends-at, walked, walk-meets}
-use Rattle.ghash.specs.declared.running.Running.{Running}
-use Rattle.ghash.specs.declared.running.Fed.{Fed}
-use Rattle.ghash.proofs.running.Running as T
-use Rattle.ghash.proofs.running.Running.Laws as T′
-use Rattle.ghash.proofs.running.Fed as F
-use Rattle.ghash.proofs.running.Fed.Laws as F′
+use Rattle.running.specs.declared.Running.{Running}
+use Rattle.running.specs.declared.Fed.{Fed}
+use Rattle.running.proofs.Running as T
+use Rattle.running.proofs.Running.Laws as T′
+use Rattle.running.proofs.Fed as F
+use Rattle.running.proofs.Fed.Laws as F′
 
 -- ---- bytes that are lent, by `&` or by `&mut`: `&[u8]` or `&mut [u8]`, over m. What they own and what is said of them at exit do not name ℓ, so it is the same for g as for the function
 abbrev own-bytes : Mutability → Lft → RefT (List ℕ) → List Val → Fml

@@ -14,9 +14,9 @@ use Rattle.field.specs.declared.product.Answer.{Answer}
 use Rattle.gf128.specs.Bytes.{blockBytes, putBlock}
 use Rattle.gf128.specs.Running.{State, finishRefusal, afterFinish, finishBlock}
 use Rattle.gf128.proofs.Bytes.{length-beBytes}
-use Rattle.ghash.specs.Running.{view, Feeds, Finishes}
-use Rattle.ghash.specs.declared.running.Running.{Running}
-use Rattle.ghash.specs.declared.running.Finished.{Finished}
+use Rattle.running.specs.State.{view, Feeds, Finishes}
+use Rattle.running.specs.declared.Running.{Running}
+use Rattle.running.specs.declared.Finished.{Finished}
 use Rattle.rvghash.specs.Lent.{stateFor}
 use Rattle.rvghash.specs.Out.{outNumber, outBytes, finishNumber, finishState, finishOut}
 

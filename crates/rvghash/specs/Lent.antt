@@ -5,7 +5,7 @@ use mathlib.Core.Bool.{cond}
 use mathlib.Core.List.{List}
 use lib.Dec.{eqb}
 use lib.ListN.{length}
-use Rattle.ghash.specs.declared.running.Running.{Running}
+use Rattle.running.specs.declared.Running.{Running}
 
 abbrev pub stateFor : List ℕ → Running → Running → Running
 stateFor out after before = cond (eqb (length out) 16) after before

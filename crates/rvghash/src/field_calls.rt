@@ -3,9 +3,9 @@ ghost use mathlib.Core.Path.{_≡_};
 ghost use Rattle.rvghash.specs.Out.{outNumber, outBytes, degreeNumber, degreePlace};
 ghost use Rattle.gf128.specs.Entries.{productRefusal, productBlock};
 use crate::out::put_answer;
+use fast::product_fast_bytes;
 use field::block::block_at;
 use field::block::degree;
-use fast::product_fast_bytes;
 use field::product::product_plain_bytes;
 
 #[no_mangle]

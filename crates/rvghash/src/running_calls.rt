@@ -1,21 +1,21 @@
 // The running hash that the caller lends, updated where it lies. Each function hands it by value to one that does the work.
 ghost use mathlib.Core.Path.{_≡_};
 ghost use Rattle.gf128.specs.Running.{fresh, feedARefusal, feedCRefusal, afterFeedA, afterFeedC};
-ghost use Rattle.ghash.specs.Running.{view, Feeds};
+ghost use Rattle.running.specs.State.{view, Feeds};
 ghost use Rattle.field.specs.Block.{valueOf};
 ghost use Rattle.rvghash.specs.Out.{outNumber, outBytes, finishNumber, finishState, finishOut};
 ghost use Rattle.rvghash.specs.Lent.{stateFor};
 use crate::out::put_answer;
 use field::product::Answer;
-use ghash::running::Fed;
-use ghash::running::Finished;
-use ghash::running::Running;
-use ghash::running::fed_a_fast;
-use ghash::running::fed_a_plain;
-use ghash::running::fed_c_fast;
-use ghash::running::fed_c_plain;
-use ghash::running::finished_fast;
-use ghash::running::finished_plain;
+use running::Fed;
+use running::Finished;
+use running::Running;
+use running::fed_a_fast;
+use running::fed_a_plain;
+use running::fed_c_fast;
+use running::fed_c_plain;
+use running::finished_fast;
+use running::finished_plain;
 
 // Makes the lent running hash a fresh one.
 #[no_mangle]

@@ -2,9 +2,9 @@
 -- Assumes nothing.
 use mir.Syntax.{imm}
 use Rattle.gf128.specs.Running.{feedCRefusal, afterFeedC}
-use Rattle.ghash.specs.Running.{view, Feeds}
-use Rattle.ghash.proofs.running.fed_c_fast.Symbol.{name as #g, routine}
-use Rattle.ghash.proofs.running.fed_c_fast.Met.{met}
+use Rattle.running.specs.State.{view, Feeds}
+use Rattle.running.proofs.fed_c_fast.Symbol.{name as #g, routine}
+use Rattle.running.proofs.fed_c_fast.Met.{met}
 use Rattle.rvghash.proofs.Lent.{Says, lent-meets}
 use Rattle.rvghash.proofs.running_calls.rvghash_feed_c.Key.{name as #f}
 use Rattle.rvghash.proofs.running_calls.rvghash_feed_c.Statement.{statement}
@@ -15,4 +15,4 @@ said key s piece number t _ = Feeds (feedCRefusal key (view s) piece) (afterFeed
 
 pub rvghash-feed-c-spec : {M : Type 1} → statement M
 unfolding code.routine
-rvghash-feed-c-spec 𝓤 H 𝓜 𝓖 𝓡 = lent-meets imm said 𝓤 H #g 𝓜 𝓖 𝓡 code.env #f (code.unfolded 𝓤 H 𝓜 𝓡) routine code.calls-ghash·running·fed-c-fast (met 𝓤 H 𝓜 𝓖 𝓡)
+rvghash-feed-c-spec 𝓤 H 𝓜 𝓖 𝓡 = lent-meets imm said 𝓤 H #g 𝓜 𝓖 𝓡 code.env #f (code.unfolded 𝓤 H 𝓜 𝓡) routine code.calls-running·fed-c-fast (met 𝓤 H 𝓜 𝓖 𝓡)

@@ -2,7 +2,7 @@
 -- Assumes nothing.
 use mathlib.Core.Path.{_≡_}
 use mir.Syntax.{mut}
-use Rattle.ghash.specs.Running.{view, Feeds}
+use Rattle.running.specs.State.{view, Feeds}
 use Rattle.rvghash.specs.Out.{finishNumber, finishState, finishOut}
 use Rattle.rvghash.proofs.running_calls.finished_into_plain.Symbol.{name as #g, routine}
 use Rattle.rvghash.proofs.running_calls.finished_into_plain.Met.{met}
