@@ -1,0 +1,4 @@
+pub mod Allowed
+pub mod Groups
+pub mod Product
+pub mod Tests

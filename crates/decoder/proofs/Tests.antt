@@ -1,0 +1,42 @@
+-- Early returns against the tests of a definition: a test that decides gives the answer `here`, any other leaves it to the `next`.
+-- Assumes nothing.
+use Prim.Native.Nat.{ℕ, _<_}
+use mathlib.Core.Bool.{Bool, true, false, true≢false, cond, _&&_, _||_}
+use mathlib.Core.Logic.{_⊎_, inl, inr}
+use mathlib.Core.Path.{_≡_, refl}
+use native.Mathlib.Omega.{arith}
+
+module _ (a b : Bool) where
+  pub or-here : a ≡ true → true ≡ (a || b)
+  or-here h = rw h
+
+  pub or-next : {r : Bool} → a ≡ false → r ≡ b → r ≡ (a || b)
+  or-next h e = rw h e
+
+  pub and-here : a ≡ false → false ≡ (a && b)
+  and-here h = rw h
+
+  pub and-next : {r : Bool} → a ≡ true → r ≡ b → r ≡ (a && b)
+  and-next h e = rw h e
+
+module _ {ℓ} {A : Type ℓ} (a : Bool) (x y : A) where
+  pub pick-here : a ≡ true → x ≡ cond a x y
+  pick-here h = rw h
+
+  pub pick-next : {r : A} → a ≡ false → r ≡ y → r ≡ cond a x y
+  pick-next h e = rw h e
+
+-- ---- what the value of a definition's test tells
+
+pub or-false : (a b : Bool) → (a || b) ≡ false → (a ≡ false) × (b ≡ false)
+or-false true b h = absurd (true≢false h)
+or-false false b h = (refl, h)
+
+pub or-true : (a b : Bool) → (a || b) ≡ true → (a ≡ true) ⊎ (b ≡ true)
+or-true true b h = inl refl
+or-true false b h = inr h
+
+-- a pick of 0 passed by what is not 0
+pub passed : (a : Bool) (m n : ℕ) → 0 < m → cond a m n ≡ 0 → (a ≡ false) × (n ≡ 0)
+passed true m n p h = absurd (omega arith)
+passed false m n p h = (refl, h)

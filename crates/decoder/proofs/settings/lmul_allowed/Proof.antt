@@ -1,0 +1,35 @@
+-- `lmul_allowed` is the definition's test, one allowed number after the other.
+-- Assumes nothing.
+use mathlib.Core.Path.{refl}
+use borrow.Author.Tests.{eq-eqb, ne-eqb}
+use Rattle.decoder.proofs.Tests.{or-here, or-next}
+use Rattle.decoder.proofs.settings.lmul_allowed.Statement.{statement}
+use Rattle.decoder.proofs.settings.lmul_allowed.Tie as tie
+
+returns : tie.Need-returns
+returns c = or-here _ _ (eq-eqb _ _ (c .if1 .taken))
+
+returns-2 : tie.Need-returns-2
+returns-2 c =
+    let c1 = c .before in
+    or-next _ _ (ne-eqb _ _ (c1 .if1 .left))
+    (or-here _ _ (eq-eqb _ _ (c .if2 .taken)))
+
+returns-3 : tie.Need-returns-3
+returns-3 c =
+    let c2 = c .before in
+    let c1 = c2 .before in
+    or-next _ _ (ne-eqb _ _ (c1 .if1 .left))
+    (or-next _ _ (ne-eqb _ _ (c2 .if2 .left))
+    (or-here _ _ (eq-eqb _ _ (c .if3 .taken))))
+
+returns-4 : tie.Need-returns-4
+returns-4 c =
+    let c2 = c .before in
+    let c1 = c2 .before in
+    or-next _ _ (ne-eqb _ _ (c1 .if1 .left))
+    (or-next _ _ (ne-eqb _ _ (c2 .if2 .left))
+    (or-next _ _ (ne-eqb _ _ (c .if3 .left)) refl))
+
+pub lmul-allowed-spec : {M : Type 1} → statement M
+lmul-allowed-spec = tie.close (tie.spec returns returns-2 returns-3 returns-4)

@@ -1,0 +1,4 @@
+// The eight words, the settings with the refusals under them, and register groups.
+pub mod group;
+pub mod settings;
+pub mod word;

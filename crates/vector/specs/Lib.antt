@@ -1,0 +1,3 @@
+pub mod Clmul
+pub mod Element
+pub mod Execute
