@@ -1,6 +1,6 @@
 -- What is written to `out`, and what a finishing call gives back, go from the by-value answers to the C functions' promises.
 -- Assumes nothing.
-use mathlib.Core.Path.{_≡_, refl, sym, ap, _∙_}
+use mathlib.Core.Path.{_≡_, refl, sym, ap, _∙_, subst}
 use mathlib.Core.Bool.{Bool, true, false, cond}
 use mathlib.Core.List.{List, [], _++_, append-nil}
 use Prim.Native.Nat.{ℕ, _+_, _≤_}
@@ -18,6 +18,8 @@ use Rattle.running.specs.State.{view, Feeds, Finishes}
 use Rattle.running.specs.declared.Running.{Running}
 use Rattle.running.specs.declared.Finished.{Finished}
 use Rattle.rvghash.specs.Lent.{stateFor}
+use Rattle.inverse.specs.StepBack.{StepsBackBytes}
+use Rattle.rvghash.specs.StepBack.{StepsBackInto}
 use Rattle.rvghash.specs.Out.{outNumber, outBytes, finishNumber, finishState, finishOut}
 
 -- an `out` of another length: 9, and nothing is written
@@ -56,3 +58,15 @@ pub finish-into : (key : List ℕ) (s : Running) (out : List ℕ) (f : Finished)
     → Feeds (finishNumber key (view s) out) (finishState key (view s) out) s n t × (out′ ≡ finishOut key (view s) out)
 finish-into key s out f n t out′ h p =
     (into (eqb (length out) 16) (finishRefusal key (view s)) (afterFinish key (view s)) (finishBlock key (view s)) s f n t h (p .0) (p .1), p .2 ∙ ap (outBytes out) (h .hash))
+
+-- a step back's answer, once its block is put to `out`
+pub stepped : (key block later out out′ : List ℕ) (n : ℕ) (a : Answer)
+    → StepsBackBytes key block later (a .number) (valueOf (a .block))
+    → (n ≡ outNumber out (a .number)) × (out′ ≡ outBytes out (valueOf (a .block)))
+    → StepsBackInto key block later out n out′
+stepped key block later out out′ n a h q =
+    record {
+      other = λ f. (q .0 ∙ rw (ne-eqb (length out) 16 f), q .1 ∙ rw (ne-eqb (length out) 16 f));
+      into = λ e.
+          (valueOf (a .block), (q .1 ∙ rw (eq-eqb (length out) 16 e), subst (λ (m : ℕ). StepsBackBytes key block later m (valueOf (a .block))) (sym (q .0 ∙ rw (eq-eqb (length out) 16 e))) h));
+    }

@@ -1,2 +1,4 @@
+pub mod Call
 pub mod Lent
 pub mod Out
+pub mod StepBack

@@ -1,12 +1,14 @@
 // The products, the step back and the degree.
 ghost use mathlib.Core.Path.{_≡_};
 ghost use Rattle.rvghash.specs.Out.{outNumber, outBytes, degreeNumber, degreePlace};
+ghost use Rattle.rvghash.specs.StepBack.{StepsBackInto};
 ghost use Rattle.gf128.specs.Entries.{productRefusal, productBlock};
 use crate::out::put_answer;
 use fast::product_fast_bytes;
 use field::block::block_at;
 use field::block::degree;
 use field::product::product_plain_bytes;
+use inverse::step_back::step_back_bytes;
 
 #[no_mangle]
 pub extern "C" fn rvghash_product_plain(key: &[u8], block: &[u8], out: &mut [u8]) -> u32
@@ -35,4 +37,12 @@ pub extern "C" fn rvghash_degree(block: &[u8], degree: &mut u32) -> u32
     let d = field::block::degree(block_at(block, 0));
     *degree = d.place;
     d.number
+}
+
+// The earlier partial hash.
+#[no_mangle]
+pub extern "C" fn rvghash_step_back(key: &[u8], block: &[u8], later: &[u8], out: &mut [u8]) -> u32
+    ensures { λ r. ⌜ StepsBackInto (now (key .entry)) (now (block .entry)) (now (later .entry)) (now (out .entry)) r (now (out .exit)) ⌝ }
+{
+    put_answer(step_back_bytes(key, block, later), out)
 }

@@ -1,0 +1,44 @@
+// The executor and the group question.
+ghost use mathlib.Core.Path.{_≡_};
+ghost use lib.ListN.{length};
+ghost use Rattle.decoder.specs.Group.{groupRefusal};
+ghost use Rattle.decoder.specs.Settings.{refusalOf};
+ghost use Rattle.vector.specs.Execute.{executed, vstartAfter};
+ghost use Rattle.rvghash.specs.Call.{settingsOf};
+use decoder::group::group_refusal;
+use decoder::settings::Settings;
+use vector::execute::execute;
+
+#[no_mangle]
+pub extern "C" fn rvghash_execute(
+    word: u32,
+    vlen: u32,
+    sew: u32,
+    lmul: u32,
+    vl: u32,
+    vstart: &mut u32,
+    scalar: u64,
+    file: &mut [u8],
+) -> u32
+    ensures { λ r. ⌜ (r ≡ refusalOf (length (now (file .entry))) word (settingsOf vlen sew lmul vl (now (vstart .entry))))
+        × (now (vstart .exit) ≡ vstartAfter (length (now (file .entry))) word (settingsOf vlen sew lmul vl (now (vstart .entry))))
+        × (now (file .exit) ≡ executed word (settingsOf vlen sew lmul vl (now (vstart .entry))) scalar (now (file .entry))) ⌝ }
+{
+    let s = Settings {
+        vlen,
+        sew,
+        lmul,
+        vl,
+        vstart: *vstart,
+    };
+    let done = execute(word, s, scalar, file);
+    *vstart = done.vstart;
+    done.number
+}
+
+#[no_mangle]
+pub extern "C" fn rvghash_group_refusal(vlen: u32, file_len: usize, lmul: u32, reg: u32) -> u32
+    ensures { λ r. ⌜ r ≡ groupRefusal vlen «file_len» lmul reg ⌝ }
+{
+    group_refusal(vlen, file_len, lmul, reg)
+}
