@@ -1,0 +1,40 @@
+/*
+ * Everything that one run measures.
+ */
+#ifndef BENCH_PLAN_H
+#define BENCH_PLAN_H
+
+#include <stdio.h>
+
+#include "inputs.h"
+#include "measure.h"
+#include "peers.h"
+#include "products.h"
+#include "words.h"
+
+/* One peer and one message length; the AES part alone has no length. */
+struct hash_case {
+    const struct inputs *inputs;
+    const struct peer *peer;
+    int length;
+};
+
+struct plan {
+    int rounds;
+    double batch_ns;
+    struct inputs inputs;
+    struct hash_case hash_cases[PEERS][LENGTHS];
+    struct item hash[PEERS][LENGTHS], aes[PEERS];
+    struct word_case word_cases[WORDS][SETTINGS];
+    struct item word[WORDS][SETTINGS], group_products;
+    struct triples triples;
+    struct item fast_product, plain_product, c_product, step_back, c_clmul;
+};
+
+/* The tables, as Markdown. */
+void report(const struct plan *plan);
+
+/* Throughput by message length, a line each: name, bytes, MiB/s, with tabs between. */
+void report_sweep(const struct plan *plan, FILE *to);
+
+#endif

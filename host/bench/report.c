@@ -1,0 +1,227 @@
+/*
+ * Prints what was measured.
+ */
+#include <stdio.h>
+
+#include "plan.h"
+#include "remote.h"
+
+#define MIB 1048576.0
+
+#ifdef __clang__
+#define COMPILER "clang " __clang_version__
+#else
+#define COMPILER "gcc " __VERSION__
+#endif
+
+/* Digits after the point that leave about three in all. */
+static int digits(double v) { return v < 9.995 ? 2 : v < 99.95 ? 1 : 0; }
+
+static void cell(double v) { printf(" %.*f |", digits(v), v); }
+
+/* What is taken off a peer's times: its AES part, if it has one. */
+static const struct item *less_of(const struct plan *plan, int peer)
+{
+    return plan->aes[peer].batch ? &plan->aes[peer] : NULL;
+}
+
+static struct summary hash_time(const struct plan *plan, int peer, int length)
+{
+    return item_time(&plan->hash[peer][length], less_of(plan, peer), plan->rounds);
+}
+
+/* How many times as fast as the peer the fast path is. */
+static double speedup(const struct plan *plan, int peer, int length)
+{
+    return item_ratio(&plan->hash[peer][length], less_of(plan, peer), &plan->hash[FAST][length], NULL, plan->rounds);
+}
+
+static double throughput(const struct plan *plan, int peer, int length)
+{
+    return (double)plan->inputs.messages[length].length / MIB / (hash_time(plan, peer, length).median / 1e9);
+}
+
+static double time_of(const struct plan *plan, const struct item *item)
+{
+    return item_time(item, NULL, plan->rounds).median;
+}
+
+static double ratio(const struct plan *plan, const struct item *a, const struct item *b)
+{
+    return item_ratio(a, NULL, b, NULL, plan->rounds);
+}
+
+static void report_how(const struct plan *plan)
+{
+    printf("Each figure is the median of %d rounds in one run. A round times every entry once, in a batch of about "
+           "%.3g ms of\nprocessor time, in one order and the other in turn. A ratio is the median of the rounds' own "
+           "ratios. Spread is the\ndistance between the quartiles in percent of the median. All peers had the same "
+           "keys and messages, and their results\nwere compared with ours before the first round.\n\n",
+           plan->rounds, plan->batch_ns / 1e6);
+    printf("- the benchmark and its plain C: " COMPILER " with -O2\n");
+    peers_versions();
+}
+
+static void target(const char *text, const char *bound, double measured, int met)
+{
+    printf("| %s | %s | %.2f | %s |\n", text, bound, measured, met ? "met" : "**missed**");
+}
+
+static void speed_target(const struct plan *plan, const char *text, int peer, int length, double least)
+{
+    if (peers[peer].missing) {
+        printf("| %s | at least %g | – | not measured: %s |\n", text, least, peers[peer].missing);
+        return;
+    }
+    char bound[32];
+    snprintf(bound, sizeof bound, "at least %g", least);
+    double measured = speedup(plan, peer, length);
+    target(text, bound, measured, measured >= least);
+}
+
+static void report_targets(const struct plan *plan)
+{
+    printf("\n## Targets\n\n| target | wanted | measured | |\n|---|---|---|---|\n");
+    speed_target(plan, "1 MiB, fast path: speed over libgcrypt's with hardware features off", LIBGCRYPT, LONG, 1.25);
+    speed_target(plan, "1 MiB, fast path: speed over BearSSL ctmul64's", BEARSSL_CTMUL64, LONG, 2.2);
+    speed_target(plan, "64 bytes, new key, fast path: speed over BearSSL ctmul64's", BEARSSL_CTMUL64, SHORT, 1.6);
+    double word = ratio(plan, &plan->word[VGHSH_VV][WIDEST], &plan->group_products);
+    target("vghsh.vv, VLEN 512, LMUL 8: time over that of its 32 fast products, a new key each", "at most 1.4", word,
+           word <= 1.4);
+    double back = ratio(plan, &plan->step_back, &plan->fast_product);
+    target("step back: time over that of a fast product with a new key", "at most 60", back, back <= 60);
+}
+
+static void report_peer(const struct plan *plan, int peer)
+{
+    printf("| %s |", peers[peer].name);
+    if (peers[peer].missing) {
+        printf(" not measured: %s | | | | | |\n", peers[peer].missing);
+        return;
+    }
+    cell(throughput(plan, peer, LONG));
+    printf(" %.1f %% |", 100 * hash_time(plan, peer, LONG).spread);
+    cell(speedup(plan, peer, LONG));
+    cell(hash_time(plan, peer, SHORT).median);
+    printf(" %.1f %% |", 100 * hash_time(plan, peer, SHORT).spread);
+    cell(speedup(plan, peer, SHORT));
+    printf("\n");
+}
+
+static void report_hashes(const struct plan *plan)
+{
+    printf("\n## GHASH, a new key for each message\n\n"
+           "\"Fast path\" is how many times as fast as the row our fast path is.\n\n"
+           "| | 1 MiB: MiB/s | spread | fast path | 64 bytes: ns | spread | fast path |\n"
+           "|---|--:|--:|--:|--:|--:|--:|\n");
+    for (int p = 0; p < PEERS; p++)
+        report_peer(plan, p);
+    printf("\n![Throughput by message length](throughput.svg)\n");
+}
+
+static void report_words_from(const struct plan *plan, int first, int last)
+{
+    for (int w = first; w <= last; w++) {
+        printf("| %s |", word_name(w));
+        for (int s = 0; s < SETTINGS; s++) {
+            double ns = time_of(plan, &plan->word[w][s]);
+            cell(ns);
+            cell(ns / word_parts(&plan->word_cases[w][s]));
+        }
+        printf("\n");
+    }
+}
+
+/* One table: the words of one kind, each setting with the time of a word and of one of its parts. */
+static void report_words(const struct plan *plan, const char *part, int sew, int first, int last)
+{
+    printf("\n| SEW %d |", sew);
+    for (int s = 0; s < SETTINGS; s++)
+        printf(" VLEN %u, LMUL %u: word | %s (of %u) |", (unsigned)all_settings[s].vlen, (unsigned)all_settings[s].lmul,
+               part, (unsigned)word_parts(&plan->word_cases[first][s]));
+    printf("\n|---|");
+    for (int s = 0; s < SETTINGS; s++)
+        printf("--:|--:|");
+    printf("\n");
+    report_words_from(plan, first, last);
+}
+
+static void row(const char *text, double ns, double over)
+{
+    printf("| %s |", text);
+    cell(ns);
+    cell(over);
+    printf("\n");
+}
+
+static void product_row(const struct plan *plan, const char *text, const struct item *item)
+{
+    row(text, time_of(plan, item), ratio(plan, item, &plan->fast_product));
+}
+
+static void report_products(const struct plan *plan)
+{
+    printf("\n## Products and step back, a new key for each call\n\n| | ns | over a fast product |\n|---|--:|--:|\n");
+    product_row(plan, "rvghash_product_fast", &plan->fast_product);
+    product_row(plan, "rvghash_product_plain", &plan->plain_product);
+    product_row(plan, "plain C, bit by bit", &plan->c_product);
+    product_row(plan, "rvghash_step_back", &plan->step_back);
+
+    const struct item *low = &plan->word[VCLMUL_VV][WIDEST], *high = &plan->word[VCLMULH_VV][WIDEST];
+    double parts = word_parts(&plan->word_cases[VCLMUL_VV][WIDEST]);
+    printf("\n## 64-bit carry-less product\n\n| | ns | over plain C |\n|---|--:|--:|\n");
+    row("an element of vclmul.vv at VLEN 512, LMUL 8", time_of(plan, low) / parts,
+        ratio(plan, low, &plan->c_clmul) / parts);
+    row("an element of vclmulh.vv, the same", time_of(plan, high) / parts, ratio(plan, high, &plan->c_clmul) / parts);
+    row("plain C, both halves", time_of(plan, &plan->c_clmul), 1);
+}
+
+static void report_aes(const struct plan *plan, int peer)
+{
+    if (peers[peer].missing)
+        return;
+    double aes = time_of(plan, &plan->aes[peer]);
+    printf("- %s: the AES part taken off is %.0f ns, %.1f %% of a call at 64 bytes and %.3f %% at 1 MiB.\n",
+           peers[peer].name, aes, 100 * aes / time_of(plan, &plan->hash[peer][SHORT]),
+           100 * aes / time_of(plan, &plan->hash[peer][LONG]));
+}
+
+static void report_notes(const struct plan *plan)
+{
+    printf("\n## How to read the peers\n\n"
+           "- Each message is hashed as A with no C, length block included. Times at 64 bytes hold what a peer does "
+           "for a new key.\n"
+           "- BearSSL: `br_ghash_ctmul64` and `br_ghash_ctmul`, portable C in constant time, nothing to turn off. "
+           "Message and\n  length block go in one call.\n"
+           "- libgcrypt: GMAC with AES-128. `GCRYCTL_DISABLE_HWF` with \"all\" before the library starts turns the "
+           "hardware\n  features off; the benchmark makes sure that the library then lists none.\n"
+           "- OpenSSL: AES-128-GCM with associated data only, which is GMAC. Without PCLMULQDQ it runs in a process "
+           "of its own\n  with `OPENSSL_ia32cap=" REMOTE_MASK "`; the benchmark makes sure by OpenSSL's own list. It "
+           "then takes\n  its assembly code with 4-bit tables. With PCLMULQDQ it shows the machine's limit.\n"
+           "- A GMAC call also makes an AES key schedule and two AES blocks. They are timed alone in the same rounds "
+           "and taken\n  off. What is left at short lengths still holds the library's own calls around its hash.\n");
+    report_aes(plan, LIBGCRYPT);
+    report_aes(plan, OPENSSL_WITHOUT);
+    report_aes(plan, OPENSSL_WITH);
+    printf("- Plain C is document 01's bit-by-bit rule with masks for its conditions, by the same compiler.\n");
+}
+
+void report(const struct plan *plan)
+{
+    report_how(plan);
+    report_targets(plan);
+    report_hashes(plan);
+    printf("\n## One executed word\n\n"
+           "Through `rvghash_execute`, vl = VLMAX, no mask; ns for the word, and for one of its elements or groups.\n");
+    report_words(plan, "element", 64, VCLMUL_VV, VCLMULH_VX);
+    report_words(plan, "group", 32, VGHSH_VV, VGMUL_VS);
+    report_products(plan);
+    report_notes(plan);
+}
+
+void report_sweep(const struct plan *plan, FILE *to)
+{
+    for (int p = 0; p < PEERS; p++)
+        for (int i = 0; i < LENGTHS && !peers[p].missing; i++)
+            fprintf(to, "%s\t%zu\t%.6g\n", peers[p].name, plan->inputs.messages[i].length, throughput(plan, p, i));
+}

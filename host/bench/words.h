@@ -1,0 +1,45 @@
+/*
+ * The eight words, each at the settings at which it is timed.
+ */
+#ifndef BENCH_WORDS_H
+#define BENCH_WORDS_H
+
+#include <stdint.h>
+
+enum { VCLMUL_VV, VCLMUL_VX, VCLMULH_VV, VCLMULH_VX, VGHSH_VV, VGHSH_VS, VGMUL_VV, VGMUL_VS, WORDS };
+
+/* VLEN 128 and 512, LMUL 1 and 8; the last is VLEN 512 and LMUL 8. */
+enum { SETTINGS = 4, WIDEST = 3 };
+
+struct settings {
+    uint32_t vlen, lmul;
+};
+
+extern const struct settings all_settings[SETTINGS];
+
+/* A word on a register file with random content: vl is VLMAX, no mask, groups vd 8, vs2 16, vs1 24. */
+struct word_case {
+    int word;
+    struct settings settings;
+    uint32_t code, sew, vl;
+    uint64_t scalar;
+    uint8_t file[32 * 512 / 8];
+};
+
+const char *word_name(int word);
+
+/* How many elements (carry-less words) or 128-bit groups (GHASH words) one execution does. */
+uint32_t word_parts(const struct word_case *c);
+
+void word_make(struct word_case *c, int word, struct settings settings, uint64_t *seed);
+
+/* Whether an execution leaves the file as document 01's rules in plain C do. */
+int word_agrees(const struct word_case *c);
+
+/* The processor time of so many executions. */
+double word_batch(const void *word_case, long calls);
+
+/* The same for so many times the fast products, by rvghash_product_fast, of all groups of vd with those of vs2. */
+double group_products_batch(const void *word_case, long calls);
+
+#endif

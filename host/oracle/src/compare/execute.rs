@@ -1,0 +1,146 @@
+//! rvghash_execute: at the limits of each setting, on all words that differ outside vd and vs2, on all pairs of 8-bit
+//! elements, and on random input.
+
+use super::execute_inputs::{any, content, scalar, vlmax, Case, MOST_FILE};
+use crate::ffi::rvghash_execute;
+use crate::lent::{strays, Lent};
+use crate::model::execute::{execute, Request, LMULS, SEWS, VLENS};
+use crate::model::word::{Row, TABLE};
+use crate::report::{Bytes, Group, Hex, Run, Seen};
+use crate::rng::Rng;
+
+pub fn run(run: &Run) {
+    let mut memory = Memory::new();
+    at_limits(run, &mut memory);
+    all_words(run, &mut memory);
+    all_bytes(run, &mut memory);
+    random(run, &mut memory);
+}
+
+#[derive(PartialEq, Debug)]
+struct Left {
+    vstart: u32,
+    file: Bytes,
+}
+
+struct Memory {
+    vstart: Lent,
+    file: Lent,
+}
+
+impl Memory {
+    fn new() -> Memory {
+        Memory { vstart: Lent::write("vstart", 4), file: Lent::write("file", MOST_FILE) }
+    }
+
+    fn call(&mut self, rng: &mut Rng, c: &Case) -> Seen<Left> {
+        let vstart = self.vstart.lend_aligned(rng, &c.vstart.to_ne_bytes(), 4);
+        let file = self.file.lend(rng, &c.file.0);
+        // SAFETY: both pointers go with memory of the told length that nothing else uses.
+        let answer = unsafe {
+            let word = c.word.0 as u32;
+            rvghash_execute(word, c.vlen, c.sew, c.lmul, c.vl, vstart.cast(), c.scalar.0, file, c.file.0.len())
+        };
+        let vstart = u32::from_ne_bytes(self.vstart.content().try_into().expect("4 bytes"));
+        let left = Left { vstart, file: Bytes(self.file.content().to_vec()) };
+        Seen { answer, left, stray: strays(&[&self.vstart, &self.file]) }
+    }
+}
+
+fn compare(group: &mut Group, memory: &mut Memory, rng: &mut Rng, c: &Case) {
+    let outcome = execute(&Request {
+        word: c.word.0 as u32,
+        vlen: c.vlen,
+        sew: c.sew,
+        lmul: c.lmul,
+        vl: c.vl,
+        vstart: c.vstart,
+        scalar: c.scalar.0,
+        file: &c.file.0,
+    });
+    let left = Left { vstart: outcome.vstart, file: Bytes(outcome.file) };
+    group.compare(c, Seen::expected(outcome.answer, left), || memory.call(rng, c));
+}
+
+fn random(run: &Run, memory: &mut Memory) {
+    let mut group = Group::new(run, "rvghash_execute, random");
+    for index in 0..240_000 * run.factor {
+        let mut rng = group.rng(index);
+        let case = any(&mut rng);
+        compare(&mut group, memory, &mut rng, &case);
+    }
+    group.end(&[0, 1, 2, 3, 4, 5, 6, 7, 8]);
+}
+
+/// Each word under each setting, with vl and vstart at their limits and with register 31.
+fn at_limits(run: &Run, memory: &mut Memory) {
+    let mut group = Group::new(run, "rvghash_execute, at the limits");
+    let mut rng = group.rng(0);
+    for row in &TABLE {
+        for vlen in VLENS {
+            for sew in SEWS {
+                for lmul in LMULS {
+                    limits_of_setting(&mut group, memory, &mut rng, row, [vlen, sew, lmul]);
+                }
+            }
+        }
+    }
+    group.end(&[0, 3, 4, 5, 6, 7, 8]);
+}
+
+fn limits_of_setting(g: &mut Group, m: &mut Memory, rng: &mut Rng, row: &Row, [vlen, sew, lmul]: [u32; 3]) {
+    let most = vlmax(vlen, sew, lmul);
+    for vl in [0, 1, 4, 5, most.saturating_sub(4), most - 1, most, most + 1, most + 4] {
+        for vstart in [0, 1, 4, vl] {
+            for which_is_31 in 0..4 {
+                let mut registers = [0; 3].map(|_| lmul * rng.below_u32(32 / lmul));
+                if let Some(register) = registers.get_mut(which_is_31) {
+                    *register = 31;
+                }
+                let [vd, vs2, vs1] = registers;
+                let word = Hex(row.encode(rng.below_u32(2), vs2, vs1, vd) as u64);
+                let file = content(rng, 32 * vlen as usize / 8, vlen);
+                let scalar = Hex(scalar(rng));
+                compare(g, m, rng, &Case { word, vlen, sew, lmul, vl, vstart, scalar, file });
+            }
+        }
+    }
+}
+
+/// Each funct6, vm, funct3 and opcode; each vs1 under the two opcodes that count, and 10001 and another one elsewhere.
+fn all_words(run: &Run, memory: &mut Memory) {
+    let mut group = Group::new(run, "rvghash_execute, all words but for vd and vs2");
+    for index in 0..128 * 8 * 128 {
+        let mut rng = group.rng(index);
+        let (funct6_vm, funct3, opcode) = (index >> 10, index >> 7 & 7, index & 127);
+        let all = opcode == 0b1010111 || opcode == 0b1110111;
+        let vs1_fields = if all { (0..32).collect() } else { vec![0b10001, rng.below_u32(32) as u64] };
+        let [vd, vs2] = [0; 2].map(|_| 1 + rng.below_u32(31) as u64);
+        let file = Bytes(rng.bytes(512));
+        for vs1 in vs1_fields {
+            let word = Hex(funct6_vm << 25 | vs2 << 20 | vs1 << 15 | funct3 << 12 | vd << 7 | opcode);
+            let (scalar, file) = (Hex(rng.u64()), file.clone());
+            let case = Case { word, vlen: 128, sew: 32, lmul: 1, vl: 4, vstart: 0, scalar, file };
+            compare(&mut group, memory, &mut rng, &case);
+        }
+    }
+    group.end(&[0, 2, 8]);
+}
+
+/// The product of each byte with each byte, low and high, by .vv and by .vx: vs2 counts up, vs1 and the scalar stand.
+fn all_bytes(run: &Run, memory: &mut Memory) {
+    let mut group = Group::new(run, "rvghash_execute, all pairs of 8-bit elements");
+    let mut rng = group.rng(0);
+    for row in TABLE.iter().filter(|row| !row.kind.is_ghash()) {
+        for byte in 0..=255u8 {
+            let mut file = rng.bytes(2048);
+            file[512..1024].iter_mut().enumerate().for_each(|(i, b)| *b = i as u8);
+            file[1024..1536].fill(byte);
+            let word = Hex(row.encode(1, 8, 16, 24) as u64);
+            let scalar = Hex(rng.u64() << 8 | byte as u64);
+            let case = Case { word, vlen: 512, sew: 8, lmul: 8, vl: 512, vstart: 0, scalar, file: Bytes(file) };
+            compare(&mut group, memory, &mut rng, &case);
+        }
+    }
+    group.end(&[0]);
+}

@@ -1,0 +1,28 @@
+//! The comparisons: each group makes its inputs, asks the model, calls the library, and compares all that was lent.
+
+mod degree;
+mod execute;
+mod execute_inputs;
+mod group;
+mod hash;
+mod inputs;
+mod limit;
+mod past_32_bits;
+mod product;
+mod running;
+mod step_back;
+
+use crate::report::{watch_for_crashes, Run};
+
+pub fn run(run: &Run) {
+    watch_for_crashes();
+    execute::run(run);
+    group::run(run);
+    product::run(run);
+    hash::run(run);
+    running::run(run);
+    limit::run(run);
+    step_back::run(run);
+    degree::run(run);
+    past_32_bits::run(run);
+}

@@ -1,0 +1,108 @@
+//! Lengths past 2^32, which are right once cut to 32 bits. The bytes exist, as zeros that can only be read.
+
+use super::inputs::out_after;
+use super::running::{from_memory, to_memory, Shown};
+use crate::ffi::{rvghash_degree, rvghash_execute, rvghash_step_back, PATHS, RUNNING_SIZE};
+use crate::lent::{huge, strays, Lent};
+use crate::model::field::{Block, ZERO};
+use crate::model::hash::LIMIT;
+use crate::model::running::{State, FRESH};
+use crate::report::{Bytes, Group, Run, Seen};
+use crate::rng::Rng;
+
+const PAST: usize = 1 << 32;
+
+pub fn run(run: &Run) {
+    let mut group = Group::new(run, "lengths past 2^32");
+    let Some(zeros) = huge(PAST + 2 * LIMIT) else {
+        println!("lengths past 2^32: left out, the system gives no such address space");
+        return;
+    };
+    let mut rng = group.rng(0);
+    execute_file(&mut group, &mut rng, zeros);
+    blocks(&mut group, &mut rng, zeros);
+    parts(&mut group, &mut rng, zeros);
+    pieces(&mut group, &mut rng, zeros);
+    group.end(&[1, 9, 11]);
+}
+
+/// A file length that is right once cut to 32 bits.
+fn execute_file(group: &mut Group, rng: &mut Rng, zeros: &[u8]) {
+    let mut vstart = Lent::write("vstart", 4);
+    for vlen in [128, 256, 512] {
+        let file_len = PAST + 4 * vlen as usize;
+        group.compare(&("rvghash_execute", vlen, file_len), Seen::expected(1, Bytes(vec![8, 0, 0, 0])), || {
+            let vstart_pointer = vstart.lend_aligned(rng, &[8, 0, 0, 0], 4).cast();
+            let file = zeros.as_ptr().cast_mut();
+            // SAFETY: the file is readable; the call must refuse it, and a write would be a crash, which is told.
+            let answer = unsafe { rvghash_execute(0x3221_E0D7, vlen, 8, 1, 9, vstart_pointer, 3, file, file_len) };
+            Seen { answer, left: Bytes(vstart.content().to_vec()), stray: strays(&[&vstart]) }
+        });
+    }
+}
+
+/// Compares a call that writes at most 16 bytes to `out`.
+fn with_out(g: &mut Group, rng: &mut Rng, what: &str, refusal: u32, call: impl FnOnce(*mut u8) -> u32) {
+    let mut out = Lent::write("out", 16);
+    let before = Bytes(rng.block().to_vec());
+    g.compare(&what, Seen::expected(refusal, out_after(&before, ZERO)), || {
+        let answer = call(out.lend(rng, &before.0));
+        Seen { answer, left: Bytes(out.content().to_vec()), stray: strays(&[&out]) }
+    });
+}
+
+/// Keys and blocks of 2^32 + 16 bytes.
+fn blocks(group: &mut Group, rng: &mut Rng, zeros: &[u8]) {
+    let z = zeros.as_ptr();
+    let long = PAST + 16;
+    for path in PATHS {
+        // SAFETY, here and below: all told bytes can be read, and `out` has 16.
+        with_out(group, rng, "product, key", 9, |out| unsafe { path.product()(z, long, z, 16, out, 16) });
+        with_out(group, rng, "product, block", 9, |out| unsafe { path.product()(z, 16, z, long, out, 16) });
+        with_out(group, rng, "ghash, key", 9, |out| unsafe { path.ghash()(z, long, z, 1, z, 1, out, 16) });
+    }
+    for place in 0..3 {
+        let [key_len, block_len, later_len] = std::array::from_fn(|i| if i == place { long } else { 16 });
+        with_out(group, rng, "step back", 9, |out| unsafe {
+            rvghash_step_back(z, key_len, z, block_len, z, later_len, out, 16)
+        });
+    }
+    let mut degree = Lent::write("degree", 4);
+    group.compare(&"degree", Seen::expected(9, Bytes(vec![0; 4])), || {
+        let pointer = degree.lend_aligned(rng, &[7, 7, 7, 7], 4).cast();
+        let answer = unsafe { rvghash_degree(z, long, pointer) };
+        Seen { answer, left: Bytes(degree.content().to_vec()), stray: strays(&[&degree]) }
+    });
+}
+
+/// An A or C of 2^32 bytes and a few.
+fn parts(group: &mut Group, rng: &mut Rng, zeros: &[u8]) {
+    let z = zeros.as_ptr();
+    for path in PATHS {
+        for long in [PAST, PAST + 1, PAST + LIMIT] {
+            // SAFETY: all told bytes can be read, and `out` has 16.
+            with_out(group, rng, "ghash, A", 11, |out| unsafe { path.ghash()(z, 16, z, long, z, 3, out, 16) });
+            with_out(group, rng, "ghash, C", 11, |out| unsafe { path.ghash()(z, 16, z, 3, z, long, out, 16) });
+        }
+    }
+}
+
+/// A piece of 2^32 bytes and a few, also where the count and the length add up to a small number modulo 2^32.
+fn pieces(group: &mut Group, rng: &mut Rng, zeros: &[u8]) {
+    let mut memory = Lent::write("running", RUNNING_SIZE);
+    let key: Block = ZERO;
+    let used = State { y: rng.block(), a_count: 32, c_count: 48, phase: 1, ..FRESH };
+    for path in PATHS {
+        for (state, feed) in [(FRESH, path.feed_a()), (FRESH, path.feed_c()), (used, path.feed_c())] {
+            for long in [PAST - 48, PAST - 1, PAST, PAST + 3, PAST + LIMIT] {
+                group.compare(&("feed", path, Shown(state), long), Seen::expected(11, Shown(state)), || {
+                    let bytes = to_memory(rng, &state);
+                    let running = memory.lend_aligned(rng, &bytes, 8).cast();
+                    // SAFETY: all told bytes can be read, and the running hash stands alone.
+                    let answer = unsafe { feed(running, key.as_ptr(), 16, zeros.as_ptr(), long) };
+                    Seen { answer, left: Shown(from_memory(memory.content())), stray: strays(&[&memory]) }
+                });
+            }
+        }
+    }
+}

@@ -1,0 +1,109 @@
+//! The C declarations of rvghash.h.
+
+use std::mem::{offset_of, size_of};
+
+#[repr(C)]
+pub struct Running {
+    pub y_high: u64,
+    pub y_low: u64,
+    pub open: [u8; 16],
+    pub a_count: u32,
+    pub c_count: u32,
+    pub phase: u8,
+}
+
+pub const RUNNING_SIZE: usize = size_of::<Running>();
+const _: () = assert!(RUNNING_SIZE == 48 && offset_of!(Running, phase) == 40);
+
+pub type Product = unsafe extern "C" fn(*const u8, usize, *const u8, usize, *mut u8, usize) -> u32;
+pub type Ghash = unsafe extern "C" fn(*const u8, usize, *const u8, usize, *const u8, usize, *mut u8, usize) -> u32;
+pub type Feed = unsafe extern "C" fn(*mut Running, *const u8, usize, *const u8, usize) -> u32;
+pub type Finish = unsafe extern "C" fn(*mut Running, *const u8, usize, *mut u8, usize) -> u32;
+
+#[rustfmt::skip]
+extern "C" {
+    pub fn rvghash_execute(
+        word: u32, vlen: u32, sew: u32, lmul: u32, vl: u32, vstart: *mut u32, scalar: u64, file: *mut u8, file_len: usize,
+    ) -> u32;
+    pub fn rvghash_group_refusal(vlen: u32, file_len: usize, lmul: u32, reg: u32) -> u32;
+    fn rvghash_product_plain(
+        key: *const u8, key_len: usize, block: *const u8, block_len: usize, out: *mut u8, out_len: usize,
+    ) -> u32;
+    fn rvghash_product_fast(
+        key: *const u8, key_len: usize, block: *const u8, block_len: usize, out: *mut u8, out_len: usize,
+    ) -> u32;
+    fn rvghash_ghash_plain(
+        key: *const u8, key_len: usize, a: *const u8, a_len: usize, c: *const u8, c_len: usize,
+        out: *mut u8, out_len: usize,
+    ) -> u32;
+    fn rvghash_ghash_fast(
+        key: *const u8, key_len: usize, a: *const u8, a_len: usize, c: *const u8, c_len: usize,
+        out: *mut u8, out_len: usize,
+    ) -> u32;
+    pub fn rvghash_step_back(
+        key: *const u8, key_len: usize, block: *const u8, block_len: usize, later: *const u8, later_len: usize,
+        out: *mut u8, out_len: usize,
+    ) -> u32;
+    pub fn rvghash_degree(block: *const u8, block_len: usize, degree: *mut u32) -> u32;
+    pub fn rvghash_running_new(running: *mut Running);
+    fn rvghash_feed_a(
+        running: *mut Running, key: *const u8, key_len: usize, piece: *const u8, piece_len: usize,
+    ) -> u32;
+    fn rvghash_feed_c(
+        running: *mut Running, key: *const u8, key_len: usize, piece: *const u8, piece_len: usize,
+    ) -> u32;
+    fn rvghash_feed_a_plain(
+        running: *mut Running, key: *const u8, key_len: usize, piece: *const u8, piece_len: usize,
+    ) -> u32;
+    fn rvghash_feed_c_plain(
+        running: *mut Running, key: *const u8, key_len: usize, piece: *const u8, piece_len: usize,
+    ) -> u32;
+    fn rvghash_finish(running: *mut Running, key: *const u8, key_len: usize, out: *mut u8, out_len: usize) -> u32;
+    fn rvghash_finish_plain(running: *mut Running, key: *const u8, key_len: usize, out: *mut u8, out_len: usize) -> u32;
+}
+
+/// The library's two ways to a product.
+#[derive(Clone, Copy, PartialEq, Eq, Debug)]
+pub enum Path {
+    Plain,
+    Fast,
+}
+
+pub const PATHS: [Path; 2] = [Path::Plain, Path::Fast];
+
+impl Path {
+    pub fn product(self) -> Product {
+        match self {
+            Path::Plain => rvghash_product_plain,
+            Path::Fast => rvghash_product_fast,
+        }
+    }
+
+    pub fn ghash(self) -> Ghash {
+        match self {
+            Path::Plain => rvghash_ghash_plain,
+            Path::Fast => rvghash_ghash_fast,
+        }
+    }
+
+    pub fn feed_a(self) -> Feed {
+        match self {
+            Path::Plain => rvghash_feed_a_plain,
+            Path::Fast => rvghash_feed_a,
+        }
+    }
+
+    pub fn feed_c(self) -> Feed {
+        match self {
+            Path::Plain => rvghash_feed_c_plain,
+            Path::Fast => rvghash_feed_c,
+        }
+    }
+
+    pub fn finish(self) -> Finish {
+        match self {
+            Path::Plain => rvghash_finish_plain,
+            Path::Fast => rvghash_finish,
+        }
+    }
+}

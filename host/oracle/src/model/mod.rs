@@ -1,0 +1,12 @@
+//! The independent model: document 01 put into code by other methods than the library's.
+
+pub mod execute;
+pub mod field;
+pub mod group;
+pub mod hash;
+pub mod linear;
+pub mod poly;
+pub mod refusal;
+pub mod running;
+pub mod step_back;
+pub mod word;

@@ -1,0 +1,96 @@
+/* Holds the header's declarations and the struct's layout against the library: sizes, offsets, and a call of each. */
+#include <stddef.h>
+#include <stdio.h>
+#include <string.h>
+
+#include "rvghash.h"
+
+static int failed;
+
+static void expect(int ok, const char *what)
+{
+    if (!ok) {
+        printf("header: %s\n", what);
+        failed = 1;
+    }
+}
+
+static int is_block(const uint8_t *block, uint8_t first, uint8_t last)
+{
+    uint8_t want[16] = {0};
+    want[0] = first;
+    want[15] = last;
+    return memcmp(block, want, 16) == 0;
+}
+
+static void layout(void)
+{
+    expect(sizeof(struct rvghash_running) == 48, "struct rvghash_running is 48 bytes");
+    expect(offsetof(struct rvghash_running, y_high) == 0, "y_high is at 0");
+    expect(offsetof(struct rvghash_running, y_low) == 8, "y_low is at 8");
+    expect(offsetof(struct rvghash_running, open) == 16, "open is at 16");
+    expect(offsetof(struct rvghash_running, a_count) == 32, "a_count is at 32");
+    expect(offsetof(struct rvghash_running, c_count) == 36, "c_count is at 36");
+    expect(offsetof(struct rvghash_running, phase) == 40, "phase is at 40");
+}
+
+/* Document 01's marked cases K6, K9, K10 and K14, each through the functions that it concerns. */
+static void fields(void)
+{
+    uint8_t zero[16] = {0}, one[16] = {0x80}, x[16] = {0x40}, last[16] = {0}, c[1] = {1}, out[16];
+    uint32_t degree = 7;
+    last[15] = 1;
+    expect(rvghash_product_plain(last, 16, x, 16, out, 16) == RVGHASH_DONE && is_block(out, 0xE1, 0), "K6, plain");
+    expect(rvghash_product_fast(last, 16, x, 16, out, 16) == RVGHASH_DONE && is_block(out, 0xE1, 0), "K6, fast");
+    expect(rvghash_product_fast(last, 15, x, 16, out, 16) == RVGHASH_NOT_16_BYTES && is_block(out, 0, 0), "a short key");
+    expect(rvghash_ghash_plain(one, 16, zero, 0, c, 1, out, 16) == RVGHASH_DONE && is_block(out, 1, 8), "K14, plain");
+    expect(rvghash_ghash_fast(one, 16, zero, 0, c, 1, out, 16) == RVGHASH_DONE && is_block(out, 1, 8), "K14, fast");
+    expect(rvghash_step_back(x, 16, zero, 16, one, 16, out, 16) == RVGHASH_DONE && is_block(out, 0xC2, 1), "K9");
+    expect(rvghash_step_back(zero, 16, zero, 16, zero, 16, out, 16) == RVGHASH_MANY && is_block(out, 0, 0), "K10");
+    expect(rvghash_degree(last, 16, &degree) == RVGHASH_DONE && degree == 127, "the degree of x^127");
+    expect(rvghash_degree(zero, 16, &degree) == RVGHASH_NONE && degree == 0, "the degree of zero");
+}
+
+static void running(void)
+{
+    uint8_t one[16] = {0x80}, c[1] = {1}, out[16];
+    struct rvghash_running r, before;
+    memset(&r, 0xFF, sizeof r);
+    rvghash_running_new(&r);
+    expect(r.y_high == 0 && r.y_low == 0 && r.a_count == 0 && r.c_count == 0 && r.phase == 0, "a fresh running hash");
+    expect(rvghash_feed_a(&r, one, 16, c, 0) == RVGHASH_DONE, "an empty piece of A");
+    expect(rvghash_feed_a_plain(&r, one, 16, c, 0) == RVGHASH_DONE, "an empty piece of A, plain");
+    expect(rvghash_feed_c(&r, one, 16, c, 1) == RVGHASH_DONE && r.phase == 1 && r.c_count == 1, "a piece of C");
+    expect(rvghash_feed_c_plain(&r, one, 16, c, 0) == RVGHASH_DONE, "an empty piece of C, plain");
+    before = r;
+    expect(rvghash_feed_a(&r, one, 16, c, 1) == RVGHASH_BAD_RUNNING && memcmp(&r, &before, 41) == 0, "A after C");
+    expect(rvghash_finish(&r, one, 16, out, 16) == RVGHASH_DONE && is_block(out, 1, 8), "finishing K14");
+    expect(r.phase == 2 && r.y_high == 0x0100000000000000u && r.y_low == 8, "the hash is also Y");
+    expect(rvghash_finish_plain(&r, one, 16, out, 16) == RVGHASH_BAD_RUNNING && is_block(out, 0, 0), "finishing again");
+}
+
+/* vclmul.vx v1, v2, x3 on bytes, K1; then a refusal, which leaves vstart. */
+static void vector(void)
+{
+    uint8_t file[512] = {0};
+    uint32_t vstart = 0;
+    file[2 * 16] = 3;
+    expect(rvghash_execute(0x3221E0D7, 128, 8, 1, 1, &vstart, 3, file, sizeof file) == RVGHASH_DONE, "vclmul.vx");
+    expect(file[16] == 5, "K1");
+    vstart = 9;
+    expect(rvghash_execute(0x3221E0D7, 129, 8, 1, 1, &vstart, 3, file, sizeof file) == RVGHASH_BAD_VLEN_OR_FILE, "VLEN 129");
+    expect(vstart == 9, "a refusal leaves vstart");
+    expect(rvghash_group_refusal(128, 512, 2, 31) == RVGHASH_BAD_GROUP, "register 31 at LMUL 2");
+    expect(rvghash_group_refusal(128, 512, 1, 31) == RVGHASH_DONE, "register 31 at LMUL 1");
+}
+
+int main(void)
+{
+    layout();
+    fields();
+    running();
+    vector();
+    if (!failed)
+        printf("header: the declarations and the layout hold\n");
+    return failed;
+}

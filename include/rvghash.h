@@ -1,0 +1,134 @@
+/*
+ * rvghash: a proved executor of the RISC-V vector GHASH and carry-less multiply instructions, and the GHASH
+ * arithmetic around it. Every function answers for every input: a refusal is a number of enum rvghash_number.
+ *
+ * A length that goes with a pointer is a number of bytes; where it is 0 the pointer may be anything. What is lent
+ * must not overlap: no two arguments of one call may share memory that the call writes.
+ * No function allocates, blocks, keeps a pointer after it returns, or has state of its own.
+ */
+#ifndef RVGHASH_H
+#define RVGHASH_H
+
+#include <stddef.h>
+#include <stdint.h>
+
+#ifdef __cplusplus
+extern "C" {
+#endif
+
+/* The refusal numbers. Where several apply the smallest is given. */
+enum rvghash_number {
+    RVGHASH_DONE = 0,              /* done */
+    RVGHASH_BAD_VLEN_OR_FILE = 1,  /* VLEN not 128, 256 or 512, or the file's length not 32 * VLEN / 8 */
+    RVGHASH_NOT_A_WORD = 2,        /* the word is none of the eight */
+    RVGHASH_BAD_SETTINGS = 3,      /* SEW or LMUL not allowed, or vl over VLMAX */
+    RVGHASH_SEW_NOT_32 = 4,        /* a GHASH word and SEW is not 32 */
+    RVGHASH_NOT_MULTIPLE_OF_4 = 5, /* a GHASH word and vl or vstart no multiple of 4 */
+    RVGHASH_BAD_GROUP = 6,         /* a register group's number no multiple of LMUL (group question: or over 31) */
+    RVGHASH_KEY_OVERLAP = 7,       /* a .vs word and vs2 equals vd */
+    RVGHASH_MASK_OVERLAP = 8,      /* vm is 0 and vd, vs2 or (.vv) vs1 is register 0 */
+    RVGHASH_NOT_16_BYTES = 9,      /* a key or block not 16 bytes long */
+    RVGHASH_BAD_RUNNING = 10,      /* running hash in the wrong phase, or malformed */
+    RVGHASH_TOO_LONG = 11,         /* A or C would pass 1,048,576 bytes */
+    RVGHASH_NONE = 12,             /* step back: no earlier hash; degree: the zero block */
+    RVGHASH_MANY = 13              /* step back: more than one earlier hash */
+};
+
+/*
+ * Executes one word on the register file.
+ * Lent: vstart, one number; file, file_len bytes, register r from byte r * vlen / 8 on.
+ * Done (0): the file holds what the instruction writes, every other byte is as before, and *vstart is 0.
+ * Refused (1 to 8): the file and *vstart are as before.
+ * scalar is the value of x register rs1, used by the .vx words; where rs1 is field 0 it counts as zero.
+ */
+uint32_t rvghash_execute(uint32_t word, uint32_t vlen, uint32_t sew, uint32_t lmul, uint32_t vl, uint32_t *vstart,
+                         uint64_t scalar, uint8_t *file, size_t file_len);
+
+/*
+ * Whether a register group exists: 1 as above, 3 if LMUL is not allowed, 6 if the register is over 31 or no multiple
+ * of LMUL, else 0, and the group is then the lmul * vlen / 8 bytes from reg * vlen / 8 on. Nothing is lent.
+ */
+uint32_t rvghash_group_refusal(uint32_t vlen, size_t file_len, uint32_t lmul, uint32_t reg);
+
+/*
+ * The product of a block and a key in the GHASH field, bit by bit (plain) or four coefficients at a time (fast).
+ * Lent: key and block, 16 bytes each, only read; out, 16 bytes.
+ * Done (0): out holds the product. Refused (9): out holds 16 zero bytes; an out that is not 16 bytes long is not
+ * written.
+ */
+uint32_t rvghash_product_plain(const uint8_t *key, size_t key_len, const uint8_t *block, size_t block_len,
+                               uint8_t *out, size_t out_len);
+uint32_t rvghash_product_fast(const uint8_t *key, size_t key_len, const uint8_t *block, size_t block_len,
+                              uint8_t *out, size_t out_len);
+
+/*
+ * GHASH of SP 800-38D over a whole A and C under a key.
+ * Lent: key, 16 bytes, a and c, at most 1,048,576 bytes each, only read; out, 16 bytes.
+ * Done (0): out holds the hash. Refused (9, 11): out holds 16 zero bytes; an out that is not 16 bytes long is not
+ * written.
+ */
+uint32_t rvghash_ghash_plain(const uint8_t *key, size_t key_len, const uint8_t *a, size_t a_len, const uint8_t *c,
+                             size_t c_len, uint8_t *out, size_t out_len);
+uint32_t rvghash_ghash_fast(const uint8_t *key, size_t key_len, const uint8_t *a, size_t a_len, const uint8_t *c,
+                            size_t c_len, uint8_t *out, size_t out_len);
+
+/*
+ * The step back: the partial hash Y with (Y xor block) * key = later.
+ * Lent: key, block and later, 16 bytes each, only read; out, 16 bytes.
+ * Done (0): out holds the only such Y. Refused (9; 12, there is none; 13, there are several): out holds 16 zero bytes;
+ * an out that is not 16 bytes long is not written.
+ */
+uint32_t rvghash_step_back(const uint8_t *key, size_t key_len, const uint8_t *block, size_t block_len,
+                           const uint8_t *later, size_t later_len, uint8_t *out, size_t out_len);
+
+/*
+ * The place of a block's highest nonzero coefficient, 0 to 127; coefficient k is bit 7 - k mod 8 of byte k div 8.
+ * Lent: block, 16 bytes, only read; degree, one number.
+ * Done (0): *degree is the place. Refused (9; 12 for the zero block): *degree is 0.
+ */
+uint32_t rvghash_degree(const uint8_t *block, size_t block_len, uint32_t *degree);
+
+/*
+ * A running hash: a message taken in pieces. Its fields are the caller's to keep and copy; no key is in it.
+ * phase 0 takes A, 1 takes C, 2 is finished. open holds the bytes since the last whole block, then zeros.
+ */
+struct rvghash_running {
+    uint64_t y_high, y_low; /* the partial hash Y, as a big-endian number's halves */
+    uint8_t open[16];
+    uint32_t a_count, c_count; /* the bytes of A and of C so far */
+    uint8_t phase;
+};
+
+/* Makes a fresh running hash. Lent: running, written whole. */
+void rvghash_running_new(struct rvghash_running *running);
+
+/*
+ * Takes a piece of A, or of C; the first C, even of length 0, ends A. Feeding and finishing may mix the paths.
+ * Lent: running; key, 16 bytes, and piece, only read.
+ * Done (0): *running has taken the piece. Refused (9, 10, 11): *running is as before.
+ */
+uint32_t rvghash_feed_a(struct rvghash_running *running, const uint8_t *key, size_t key_len, const uint8_t *piece,
+                        size_t piece_len);
+uint32_t rvghash_feed_c(struct rvghash_running *running, const uint8_t *key, size_t key_len, const uint8_t *piece,
+                        size_t piece_len);
+uint32_t rvghash_feed_a_plain(struct rvghash_running *running, const uint8_t *key, size_t key_len,
+                              const uint8_t *piece, size_t piece_len);
+uint32_t rvghash_feed_c_plain(struct rvghash_running *running, const uint8_t *key, size_t key_len,
+                              const uint8_t *piece, size_t piece_len);
+
+/*
+ * Finishes: adds the length block.
+ * Lent: running; key, 16 bytes, only read; out, 16 bytes.
+ * Done (0): out holds the hash, which is also *running's Y, and the phase is 2. Refused (9, 10): *running is as before
+ * and out holds 16 zero bytes; an out that is not 16 bytes long is not written.
+ */
+uint32_t rvghash_finish(struct rvghash_running *running, const uint8_t *key, size_t key_len, uint8_t *out,
+                        size_t out_len);
+uint32_t rvghash_finish_plain(struct rvghash_running *running, const uint8_t *key, size_t key_len, uint8_t *out,
+                              size_t out_len);
+
+#ifdef __cplusplus
+}
+#endif
+
+#endif
