@@ -7,7 +7,7 @@ use mathlib.Core.Path.{_≡_}
 use borrow.Author.Tests.{eqb-true}
 use lib.Dec.{eqb}
 use Rattle.decoder.specs.Settings.{vlenAllowed, lmulAllowed}
-use Rattle.decoder.proofs.Tests.{or-true}
+use Rattle.word.proofs.Tests.{or-true}
 
 pub vlen-cases : (vlen : ℕ) → vlenAllowed vlen ≡ true → (vlen ≡ 128) ⊎ ((vlen ≡ 256) ⊎ (vlen ≡ 512))
 vlen-cases vlen h =

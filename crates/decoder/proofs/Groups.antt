@@ -13,7 +13,7 @@ use lib.ListN.{length, take, drop, length-take, length-drop}
 use Rattle.decoder.specs.Settings.{applies1, vlenAllowed, lmulAllowed, misaligned, registerBytes, fileBytes, groupLength}
 use Rattle.decoder.specs.Group.{groupRefusal, groupOf}
 use Rattle.decoder.proofs.Allowed.{vlen-cases, lmul-cases}
-use Rattle.decoder.proofs.Tests.{pick-here, pick-next, or-false, passed}
+use Rattle.word.proofs.Tests.{pick-here, pick-next, or-false, passed}
 
 -- an aligned group ends at the last register or before
 pub last-register : (lmul r : ℕ) → lmulAllowed lmul ≡ true → r ≤ 31 → r % lmul ≡ 0 → r + lmul ≤ 32

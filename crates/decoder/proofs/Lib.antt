@@ -1,4 +1,3 @@
 pub mod Allowed
 pub mod Groups
 pub mod Product
-pub mod Tests

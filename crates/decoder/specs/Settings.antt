@@ -4,12 +4,12 @@ use Prim.Native.Nat.{ℕ, _+_, _*_, _/_, _%_}
 use mathlib.Core.Bool.{Bool, true, false, cond, not, _&&_, _||_}
 use lib.Dec.{eqb, ltb}
 use Rattle.decoder.specs.declared.settings.Settings.{Settings}
-use Rattle.decoder.specs.declared.word.Kind.{Kind}
-use Rattle.decoder.specs.declared.word.Kind.the-variants.{VclmulVv, VclmulVx, VclmulhVv, VclmulhVx, VghshVv, VghshVs, VgmulVv, VgmulVs}
-use Rattle.decoder.specs.declared.word.Fields.{Fields}
-use Rattle.decoder.specs.declared.word.Word.{Word}
-use Rattle.decoder.specs.declared.word.Word.the-variants.{Known, Unknown}
-use Rattle.decoder.specs.Word.{decode}
+use Rattle.word.specs.declared.Kind.{Kind}
+use Rattle.word.specs.declared.Kind.the-variants.{VclmulVv, VclmulVx, VclmulhVv, VclmulhVx, VghshVv, VghshVs, VgmulVv, VgmulVs}
+use Rattle.word.specs.declared.Fields.{Fields}
+use Rattle.word.specs.declared.Word.{Word}
+use Rattle.word.specs.declared.Word.the-variants.{Known, Unknown}
+use Rattle.word.specs.Word.{decode}
 
 -- ---- what is allowed, and what follows from it
 

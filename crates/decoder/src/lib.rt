@@ -1,4 +1,3 @@
-// The eight words, the settings with the refusals under them, and register groups.
+// The settings with the refusals under them, and register groups.
 pub mod group;
 pub mod settings;
-pub mod word;

@@ -4,10 +4,10 @@ ghost use mathlib.Core.Path.{_≡_};
 ghost use Rattle.decoder.specs.Settings.{vlenAllowed, sewAllowed, lmulAllowed, vlmax, registerBytes, fileBytes, groupLength, misaligned};
 ghost use Rattle.decoder.specs.Settings.{isGhash, isVs, isCarrylessVv, hasVs1Group};
 ghost use Rattle.decoder.specs.Settings.{applies1, applies3, applies4, applies5, applies6, applies7, applies8, refusalOfKnown, refusalOfWord, refusalOf};
-use crate::word::Fields;
-use crate::word::Kind;
-use crate::word::Word;
-use crate::word::decode;
+use word::Fields;
+use word::Kind;
+use word::Word;
+use word::decode;
 
 // What the host sets before a word: VLEN and SEW in bits, LMUL in registers, vl and vstart in elements.
 pub struct Settings {

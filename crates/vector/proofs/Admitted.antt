@@ -10,13 +10,13 @@ use borrow.Author.Tests.{eq-eqb, ne-eqb, not-false}
 use lib.Dec.{eqb, ltb}
 use lib.ListN.{length}
 use Rattle.decoder.specs.declared.settings.Settings.{Settings}
-use Rattle.decoder.specs.declared.word.Fields.{Fields}
-use Rattle.decoder.specs.declared.word.Kind.{Kind}
-use Rattle.decoder.specs.declared.word.Word.{Word}
-use Rattle.decoder.specs.declared.word.Word.the-variants.{Known, Unknown}
+use Rattle.word.specs.declared.Fields.{Fields}
+use Rattle.word.specs.declared.Kind.{Kind}
+use Rattle.word.specs.declared.Word.{Word}
+use Rattle.word.specs.declared.Word.the-variants.{Known, Unknown}
 use Rattle.decoder.specs.Settings.{applies1, applies3, applies4, applies5, applies6, applies7, applies8, sewAllowed, lmulAllowed, vlmax, refusalOfKnown, refusalOfWord, refusalOf}
-use Rattle.decoder.specs.Word.{decode}
-use Rattle.decoder.proofs.Tests.{or-false, passed, pick-here, pick-next}
+use Rattle.word.specs.Word.{decode}
+use Rattle.word.proofs.Tests.{or-false, passed, pick-here, pick-next}
 use Rattle.vector.specs.Execute.{done, executed, vstartAfter}
 
 pub record Admitted (fileLength : ℕ) (k : Kind) (f : Fields) (s : Settings) : Type 0 where

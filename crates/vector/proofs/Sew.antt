@@ -7,7 +7,7 @@ use Prim.Native.Nat.{ℕ, _+_, _<_, _≤_}
 use native.Mathlib.Omega.{arith}
 use borrow.Author.Tests.{eqb-true}
 use lib.Dec.{eqb}
-use Rattle.decoder.proofs.Tests.{or-true}
+use Rattle.word.proofs.Tests.{or-true}
 use Rattle.decoder.specs.Settings.{sewAllowed}
 
 pub sew-cases : (sew : ℕ) → sewAllowed sew ≡ true → (sew ≡ 8) ⊎ ((sew ≡ 16) ⊎ ((sew ≡ 32) ⊎ (sew ≡ 64)))

@@ -5,9 +5,9 @@ use mathlib.Core.Path.{_≡_, refl, sym, ap, ap₂, _∙_}
 use mathlib.Core.List.{List}
 use Prim.Native.Nat.{ℕ, suc, _+_, _-_, _/_, _<_, _≤_}
 use native.Mathlib.Omega.{arith}
-use Rattle.decoder.proofs.Tests.{pick-here, pick-next}
+use Rattle.word.proofs.Tests.{pick-here, pick-next}
 use Rattle.decoder.specs.declared.settings.Settings.{Settings}
-use Rattle.decoder.specs.declared.word.Fields.{Fields}
+use Rattle.word.specs.declared.Fields.{Fields}
 use Rattle.gf128.specs.Field.{product}
 use Rattle.gf128.specs.Bytes.{putBlock}
 use Rattle.vector.specs.declared.execute.Half.{Half}

@@ -16,15 +16,15 @@ use Rattle.vector.specs.declared.execute.Multiplier.the-variants.{Vs1, S
 use Rattle.vector.specs.declared.execute.Multiplicand.{Multiplicand}
 use Rattle.vector.specs.declared.execute.Multiplicand.the-variants.{YXorX, YAlone}
 use Rattle.decoder.specs.declared.settings.Settings.{Settings}
-use Rattle.decoder.specs.declared.word.Kind.{Kind}
-use Rattle.decoder.specs.declared.word.Kind.the-variants.{VclmulVv, VclmulVx, VclmulhVv, VclmulhVx, VghshVv, VghshVs, VgmulVv, VgmulVs}
-use Rattle.decoder.specs.declared.word.Fields.{Fields}
-use Rattle.decoder.specs.declared.word.Word.{Word}
-use Rattle.decoder.specs.declared.word.Word.the-variants.{Known, Unknown}
+use Rattle.word.specs.declared.Kind.{Kind}
+use Rattle.word.specs.declared.Kind.the-variants.{VclmulVv, VclmulVx, VclmulhVv, VclmulhVx, VghshVv, VghshVs, VgmulVv, VgmulVs}
+use Rattle.word.specs.declared.Fields.{Fields}
+use Rattle.word.specs.declared.Word.{Word}
+use Rattle.word.specs.declared.Word.the-variants.{Known, Unknown}
 use Rattle.vector.specs.Clmul.{clmul64, lowHalf, highHalf}
 use Rattle.vector.specs.Element.{readLe, writeLe, elementAt, blockPlace, maskBit}
 use Rattle.decoder.specs.Settings.{refusalOf}
-use Rattle.decoder.specs.Word.{decode}
+use Rattle.word.specs.Word.{decode}
 
 -- foreach i, n times from i on
 unfoldable pub steps : (ℕ → List ℕ → List ℕ) → ℕ → ℕ → List ℕ → List ℕ

@@ -5,7 +5,7 @@ use mathlib.Core.Bool.{not}
 use borrow.Author.Tests.{lt-ltb, le-ltb}
 use borrow.Author.Needs.{needs}
 use Rattle.decoder.specs.Group.{groupRefusal}
-use Rattle.decoder.proofs.Tests.{or-here, or-next, pick-here, pick-next}
+use Rattle.word.proofs.Tests.{or-here, or-next, pick-here, pick-next}
 use Rattle.decoder.proofs.group.group_refusal.Statement.{statement}
 use Rattle.decoder.proofs.group.group_refusal.Tie as tie
 

@@ -3,7 +3,7 @@
 use mathlib.Core.Path.{ap, sym, _∙_}
 use mathlib.Core.Bool.{not}
 use borrow.Author.Needs.{needs}
-use Rattle.decoder.proofs.Tests.{or-here, or-next}
+use Rattle.word.proofs.Tests.{or-here, or-next}
 use Rattle.decoder.proofs.settings.applies_1.Statement.{statement}
 use Rattle.decoder.proofs.settings.applies_1.Tie as tie
 

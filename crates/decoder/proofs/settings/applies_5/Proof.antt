@@ -4,7 +4,7 @@ use mathlib.Core.Path.{refl, ap, sym, _∙_}
 use mathlib.Core.Bool.{not}
 use borrow.Author.Tests.{eq-eqb, ne-eqb}
 use borrow.Author.Needs.{needs}
-use Rattle.decoder.proofs.Tests.{and-here, and-next, or-here, or-next}
+use Rattle.word.proofs.Tests.{and-here, and-next, or-here, or-next}
 use Rattle.decoder.proofs.settings.applies_5.Statement.{statement}
 use Rattle.decoder.proofs.settings.applies_5.Tie as tie
 

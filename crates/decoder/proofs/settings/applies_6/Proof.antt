@@ -2,7 +2,7 @@
 -- Assumes nothing.
 use mathlib.Core.Path.{sym, _∙_}
 use borrow.Author.Needs.{needs}
-use Rattle.decoder.proofs.Tests.{or-here, or-next, and-here, and-next}
+use Rattle.word.proofs.Tests.{or-here, or-next, and-here, and-next}
 use Rattle.decoder.proofs.settings.applies_6.Statement.{statement}
 use Rattle.decoder.proofs.settings.applies_6.Tie as tie
 

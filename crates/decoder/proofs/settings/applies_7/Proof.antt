@@ -2,7 +2,7 @@
 -- Assumes nothing.
 use mathlib.Core.Path.{refl, sym, _∙_}
 use borrow.Author.Needs.{needs}
-use Rattle.decoder.proofs.Tests.{and-here, and-next}
+use Rattle.word.proofs.Tests.{and-here, and-next}
 use Rattle.decoder.proofs.settings.applies_7.Statement.{statement}
 use Rattle.decoder.proofs.settings.applies_7.Tie as tie
 

@@ -3,7 +3,7 @@
 use mathlib.Core.Path.{refl, sym, _∙_}
 use borrow.Author.Tests.{eq-eqb, ne-eqb}
 use borrow.Author.Needs.{needs}
-use Rattle.decoder.proofs.Tests.{or-here, or-next, and-here, and-next}
+use Rattle.word.proofs.Tests.{or-here, or-next, and-here, and-next}
 use Rattle.decoder.proofs.settings.applies_8.Statement.{statement}
 use Rattle.decoder.proofs.settings.applies_8.Tie as tie
 

@@ -2,9 +2,9 @@
 -- Assumes nothing.
 use mathlib.Core.Path.{ap, sym, _∙_}
 use borrow.Author.Needs.{needs}
-use Rattle.decoder.specs.declared.word.Word.{Word}
+use Rattle.word.specs.declared.Word.{Word}
 use Rattle.decoder.specs.Settings.{refusalOf, refusalOfWord}
-use Rattle.decoder.proofs.Tests.{pick-here, pick-next}
+use Rattle.word.proofs.Tests.{pick-here, pick-next}
 use Rattle.decoder.proofs.settings.refusal.Statement.{statement}
 use Rattle.decoder.proofs.settings.refusal.Tie as tie
 

@@ -3,7 +3,7 @@
 use mathlib.Core.Path.{refl, sym, _∙_}
 use borrow.Author.Needs.{needs}
 use Rattle.decoder.specs.Settings.{refusalOfKnown}
-use Rattle.decoder.proofs.Tests.{pick-here, pick-next}
+use Rattle.word.proofs.Tests.{pick-here, pick-next}
 use Rattle.decoder.proofs.settings.refusal_of_known.Statement.{statement}
 use Rattle.decoder.proofs.settings.refusal_of_known.Tie as tie
 

@@ -2,7 +2,7 @@
 -- Assumes nothing.
 use mathlib.Core.Path.{ap, sym, _∙_}
 use borrow.Author.Needs.{needs}
-use Rattle.decoder.specs.declared.word.Word.{Word}
+use Rattle.word.specs.declared.Word.{Word}
 use Rattle.decoder.specs.Settings.{refusalOfWord}
 use Rattle.decoder.proofs.settings.refusal_of_word.Statement.{statement}
 use Rattle.decoder.proofs.settings.refusal_of_word.Tie as tie

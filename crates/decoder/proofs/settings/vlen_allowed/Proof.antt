@@ -2,7 +2,7 @@
 -- Assumes nothing.
 use mathlib.Core.Path.{refl}
 use borrow.Author.Tests.{eq-eqb, ne-eqb}
-use Rattle.decoder.proofs.Tests.{or-here, or-next}
+use Rattle.word.proofs.Tests.{or-here, or-next}
 use Rattle.decoder.proofs.settings.vlen_allowed.Statement.{statement}
 use Rattle.decoder.proofs.settings.vlen_allowed.Tie as tie
 

@@ -3,7 +3,7 @@
 use mathlib.Core.Path.{ap, sym, _∙_}
 use mathlib.Core.Bool.{not}
 use borrow.Author.Needs.{needs}
-use Rattle.decoder.proofs.Tests.{and-next}
+use Rattle.word.proofs.Tests.{and-next}
 use Rattle.decoder.proofs.settings.vs2_misaligned.Statement.{statement}
 use Rattle.decoder.proofs.settings.vs2_misaligned.Tie as tie
 

@@ -3,7 +3,7 @@ use Prim.Native.Nat.{ℕ}
 use mathlib.Core.Path.{ap}
 use lib.Dec.{eqb}
 use borrow.Author.Tests.{eq-eqb, ne-eqb}
-use Rattle.decoder.proofs.Tests.{or-here, or-next}
+use Rattle.word.proofs.Tests.{or-here, or-next}
 use Rattle.vector.specs.Element.{maskBit}
 use borrow.Author.Needs.{needs}
 use Rattle.vector.proofs.execute.active.Statement.{statement}

@@ -1,6 +1,6 @@
 -- `run` does a decoded word. Assumes nothing.
 use mathlib.Core.Path.{sym, ap, _∙_}
-use Rattle.decoder.specs.declared.word.Word.{Word}
+use Rattle.word.specs.declared.Word.{Word}
 use Rattle.vector.specs.Execute.{done}
 use borrow.Author.Needs.{needs}
 use Rattle.vector.proofs.execute.run.Statement.{statement}

@@ -3,9 +3,9 @@ use Prim.Native.Nat.{ℕ}
 use mathlib.Core.List.{List}
 use mathlib.Core.Path.{_≡_, sym, ap, _∙_}
 use Rattle.decoder.specs.declared.settings.Settings.{Settings}
-use Rattle.decoder.specs.declared.word.Fields.{Fields}
-use Rattle.decoder.specs.declared.word.Kind.{Kind}
-use Rattle.decoder.specs.declared.word.Kind.the-variants.{VclmulVv, VclmulVx, VclmulhVv, VclmulhVx, VghshVv, VghshVs, VgmulVv, VgmulVs}
+use Rattle.word.specs.declared.Fields.{Fields}
+use Rattle.word.specs.declared.Kind.{Kind}
+use Rattle.word.specs.declared.Kind.the-variants.{VclmulVv, VclmulVx, VclmulhVv, VclmulhVx, VghshVv, VghshVs, VgmulVv, VgmulVs}
 use Rattle.vector.specs.declared.execute.Half.the-variants.{Low, High}
 use Rattle.vector.specs.declared.execute.Multiplier.the-variants.{Scalar}
 use Rattle.vector.specs.Execute.{carryless, doneKnown}
