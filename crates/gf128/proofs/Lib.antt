@@ -1,5 +1,6 @@
 pub mod Bytes
 pub mod Chain
+pub mod Computed
 pub mod Degree
 pub mod Differ
 pub mod Division

@@ -8,13 +8,11 @@ use native.Mathlib.Omega.{arith}
 use Rattle.word.proofs.Tests.{pick-here, pick-next}
 use Rattle.decoder.specs.declared.settings.Settings.{Settings}
 use Rattle.word.specs.declared.Fields.{Fields}
-use Rattle.gf128.specs.Field.{product}
-use Rattle.gf128.specs.Bytes.{putBlock}
-use Rattle.vector.specs.declared.execute.Half.{Half}
+use Rattle.element.specs.declared.clmul.Half.{Half}
 use Rattle.vector.specs.declared.execute.Multiplier.{Multiplier}
 use Rattle.vector.specs.declared.execute.Multiplicand.{Multiplicand}
-use Rattle.vector.specs.Element.{writeLe, elementAt, blockPlace}
-use Rattle.vector.specs.Execute.{steps, active, carrylessResult, carrylessStep, group, multiplicandOf, vvStep, vsStep}
+use Rattle.element.specs.Element.{writeLe, elementAt}
+use Rattle.vector.specs.Execute.{steps, active, carrylessResult, carrylessStep, group, vvStep, vsStep}
 
 module _ (which : Half) (m : Multiplier) (f : Fields) (s : Settings) (i : ℕ) (file : List ℕ) where
   -- an active element is written

@@ -9,8 +9,8 @@ use lib.Dec.{eqb}
 use lib.ListN.{length}
 use Rattle.gf128.specs.Bytes.{blockAt, putBlock}
 use Rattle.gf128.specs.Field.{product}
-use Rattle.vector.specs.declared.execute.Half.{Half}
-use Rattle.vector.specs.declared.execute.Half.the-variants.{Low, High}
+use Rattle.element.specs.declared.clmul.Half.{Half}
+use Rattle.element.specs.declared.clmul.Half.the-variants.{Low, High}
 use Rattle.vector.specs.declared.execute.Multiplier.{Multiplier}
 use Rattle.vector.specs.declared.execute.Multiplier.the-variants.{Vs1, Scalar}
 use Rattle.vector.specs.declared.execute.Multiplicand.{Multiplicand}
@@ -21,8 +21,8 @@ use Rattle.word.specs.declared.Kind.the-variants.{VclmulVv, VclmulVx, VclmulhVv
 use Rattle.word.specs.declared.Fields.{Fields}
 use Rattle.word.specs.declared.Word.{Word}
 use Rattle.word.specs.declared.Word.the-variants.{Known, Unknown}
-use Rattle.vector.specs.Clmul.{clmul64, lowHalf, highHalf}
-use Rattle.vector.specs.Element.{readLe, writeLe, elementAt, blockPlace, maskBit}
+use Rattle.element.specs.Clmul.{clmul64, halfOf}
+use Rattle.element.specs.Element.{readLe, writeLe, elementAt, blockPlace, maskBit}
 use Rattle.decoder.specs.Settings.{refusalOf}
 use Rattle.word.specs.Word.{decode}
 
@@ -49,11 +49,6 @@ scalarOf f s scalar = cond (eqb (f .vs1) 0) 0 (scalar % 2 ^ s .sew)
 abbrev pub multiplierOf : Multiplier → Fields → Settings → List ℕ → ℕ → ℕ
 multiplierOf Vs1 f s file i = element s file (f .vs1) i
 multiplierOf (Scalar x) f s file i = x
-
--- the half of the product that is kept
-abbrev pub halfOf : Half → ℕ → ℕ → ℕ
-halfOf Low sew p = lowHalf sew p
-halfOf High sew p = highHalf sew p
 
 -- element i's result
 unfoldable pub carrylessResult : Half → Multiplier → Fields → Settings → List ℕ → ℕ → ℕ

@@ -1,3 +1,1 @@
-pub mod Clmul
-pub mod Element
 pub mod Execute

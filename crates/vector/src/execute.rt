@@ -8,32 +8,27 @@ ghost use Rattle.field.specs.Block.{valueOf};
 ghost use Rattle.fast.specs.Table.{TableOf};
 ghost use Rattle.decoder.specs.Settings.{sewAllowed, refusalOf};
 ghost use Rattle.vector.specs.Execute.{active, element, scalarOf, multiplierOf, carrylessResult, carrylessStep, carryless, group, multiplicandOf, vvStep, vsStep, ghashVv, ghashVs, doneKnown, done, executed, vstartAfter};
-use crate::clmul::clmul64;
-use crate::clmul::half;
-use crate::clmul::low_bits;
-use crate::element::block_place;
-use crate::element::element_at;
-use crate::element::mask_bit;
-use crate::element::read_le;
-use crate::element::write_le;
 use decoder::settings::Settings;
 use decoder::settings::refusal;
-use word::Fields;
-use word::Kind;
-use word::Word;
-use word::decode;
+use element::clmul::Half;
+use element::clmul::clmul64;
+use element::clmul::half_of;
+use element::clmul::low_bits;
+use element::element::block_place;
+use element::element::element_at;
+use element::element::mask_bit;
+use element::element::read_le;
+use element::element::write_le;
 use fast::fill_tables;
 use fast::product_fast;
 use field::block::Block;
 use field::block::Key;
 use field::block::block_at;
 use field::block::put_block;
-
-// The half of a carry-less product that a word keeps.
-pub enum Half {
-    Low,
-    High,
-}
+use word::Fields;
+use word::Kind;
+use word::Word;
+use word::decode;
 
 // The multiplier of an element: vs1's element, or one number for all elements.
 pub enum Multiplier {
@@ -91,7 +86,7 @@ fn carryless_result(which: Half, m: Multiplier, f: Fields, s: Settings, i: u32, 
     ensures { λ r. ⌜ r ≡ carrylessResult which m f s (now (file .entry)) i ⌝ }
 {
     let p = clmul64(element(s, f.vs2, i, file), multiplier_of(m, f, s, i, file));
-    half(which, s.sew as u64, p)
+    half_of(which, s.sew as u64, p)
 }
 
 // Element i is written, if it is active.

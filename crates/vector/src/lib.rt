@@ -1,4 +1,2 @@
-// The executor of the eight words, over the decoder and the field's products.
-pub mod clmul;
-pub mod element;
+// The executor of the eight words, over the decoder, the elements and the field's products.
 pub mod execute;

@@ -4,7 +4,7 @@ use mathlib.Core.Path.{ap}
 use lib.Dec.{eqb}
 use borrow.Author.Tests.{eq-eqb, ne-eqb}
 use Rattle.word.proofs.Tests.{or-here, or-next}
-use Rattle.vector.specs.Element.{maskBit}
+use Rattle.element.specs.Element.{maskBit}
 use borrow.Author.Needs.{needs}
 use Rattle.vector.proofs.execute.active.Statement.{statement}
 use Rattle.vector.proofs.execute.active.Tie as tie

@@ -1,7 +1,8 @@
 -- `carryless_result` gives an element's result. Assumes nothing.
 use mathlib.Core.Path.{ap, ap₂, _∙_}
-use Rattle.vector.specs.Clmul.{clmul64}
-use Rattle.vector.specs.Execute.{halfOf, carrylessResult}
+use Rattle.element.specs.Clmul.{clmul64}
+use Rattle.element.specs.Clmul.{halfOf}
+use Rattle.vector.specs.Execute.{carrylessResult}
 use borrow.Author.Needs.{needs}
 use Rattle.vector.proofs.execute.carryless_result.Statement.{statement}
 use Rattle.vector.proofs.execute.carryless_result.Tie as tie
@@ -15,17 +16,17 @@ multiplier-of-requires c κs = search needs
 clmul64-requires : tie.Need-clmul64-requires
 clmul64-requires c κs = search needs
 
-cast-half : tie.Need-cast-half
-cast-half c = search needs
+cast-half-of : tie.Need-cast-half-of
+cast-half-of c = search needs
 
-half-requires : tie.Need-half-requires
-half-requires c κs = search needs
+half-of-requires : tie.Need-half-of-requires
+half-of-requires c κs = search needs
 
 returns : tie.Need-returns
 unfolding carrylessResult
 returns c =
     let s = c .before .before .before .before .before .before in
-    c .half .ensures
+    c .half-of .ensures
     ∙ ap (halfOf (s .args .which) (s .args .s .sew))
     (c .before .before .clmul64 .ensures ∙ ap₂ clmul64 (c .before .before .before .before .element .ensures) (c .before .before .before .multiplier-of .ensures))
 
@@ -36,6 +37,6 @@ carryless-result-spec =
     element-requires
     multiplier-of-requires
     clmul64-requires
-    cast-half
-    half-requires
+    cast-half-of
+    half-of-requires
     returns)

@@ -2,7 +2,7 @@
 use Prim.Native.Nat.{_/_, _≤_}
 use mathlib.Core.Path.{sym, _∙_}
 use native.Mathlib.Omega.{arith}
-use Rattle.vector.proofs.Sew.{sew-facts}
+use Rattle.element.proofs.Sew.{sew-facts}
 use Rattle.vector.proofs.Steps.{element-written, element-left}
 use borrow.Author.Needs.{needs}
 use Rattle.vector.proofs.execute.carryless_step.Statement.{statement}

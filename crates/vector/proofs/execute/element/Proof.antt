@@ -2,8 +2,8 @@
 use Prim.Native.Nat.{ℕ, _/_}
 use mathlib.Core.Path.{ap, _∙_}
 use native.Mathlib.Omega.{arith}
-use Rattle.vector.specs.Element.{readLe}
-use Rattle.vector.proofs.Sew.{sew-facts}
+use Rattle.element.specs.Element.{readLe}
+use Rattle.element.proofs.Sew.{sew-facts}
 use borrow.Author.Needs.{needs}
 use Rattle.vector.proofs.execute.element.Statement.{statement}
 use Rattle.vector.proofs.execute.element.Tie as tie

@@ -1,7 +1,6 @@
 -- `ghash_vs` does the groups vstart/4 to vl/4 - 1 with one key, read before any write. The loop's invariant: the tables are the
 -- key's, and what is left. Assumes nothing.
 use Prim.Native.Nat.{ℕ, _-_, _/_}
-use mathlib.Core.List.{List}
 use mathlib.Core.Path.{_≡_, refl, subst, _∙_}
 use native.Mathlib.Omega.{arith}
 use borrow.Author.Needs.{needs}

@@ -6,7 +6,7 @@ use Rattle.decoder.specs.declared.settings.Settings.{Settings}
 use Rattle.word.specs.declared.Fields.{Fields}
 use Rattle.word.specs.declared.Kind.{Kind}
 use Rattle.word.specs.declared.Kind.the-variants.{VclmulVv, VclmulVx, VclmulhVv, VclmulhVx, VghshVv, VghshVs, VgmulVv, VgmulVs}
-use Rattle.vector.specs.declared.execute.Half.the-variants.{Low, High}
+use Rattle.element.specs.declared.clmul.Half.the-variants.{Low, High}
 use Rattle.vector.specs.declared.execute.Multiplier.the-variants.{Scalar}
 use Rattle.vector.specs.Execute.{carryless, doneKnown}
 use borrow.Author.Needs.{needs}

@@ -3,7 +3,7 @@ use Prim.Native.Nat.{_%_, _^_}
 use lib.Dec.{eqb}
 use borrow.Author.Tests.{eq-eqb, ne-eqb}
 use Rattle.word.proofs.Tests.{pick-here, pick-next}
-use Rattle.vector.proofs.Sew.{sew-facts}
+use Rattle.element.proofs.Sew.{sew-facts}
 use borrow.Author.Needs.{needs}
 use Rattle.vector.proofs.execute.scalar_of.Statement.{statement}
 use Rattle.vector.proofs.execute.scalar_of.Tie as tie

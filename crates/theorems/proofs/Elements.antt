@@ -1,0 +1,123 @@
+-- A carry-less word's fold: each active element in range gets the result computed from the file at entry, and every other byte stays.
+-- vd may be vs1 or vs2: element i is read before it is written, and no later one reads it.
+-- Assumes nothing.
+use mathlib.Core.Bool.{Bool, true, false, cond, _||_}
+use mathlib.Core.List.{List}
+use mathlib.Core.Path.{_≡_, refl, sym, ap, ap₂, subst, _∙_}
+use Prim.Native.Nat.{ℕ, zero, suc, _+_, _*_, _/_, _%_, _^_, _<_, _≤_}
+use native.Mathlib.Nat.{mod-lt, mod-eq-of-lt, mul-le-mul-right, one-mul, suc-mul, le-trans, le-of-eq, pow-suc, mul-suc}
+use native.Mathlib.Omega.{arith}
+use borrow.Author.Tests.{eqb-false}
+use lib.Dec.{eqb}
+use lib.ListN.{length}
+use lib.Pow.{pow-add, pow-pos}
+use Rattle.decoder.specs.declared.settings.Settings.{Settings}
+use Rattle.word.specs.declared.Fields.{Fields}
+use Rattle.decoder.specs.Settings.{registerBytes, groupLength}
+use Rattle.element.specs.declared.clmul.Half.{Half}
+use Rattle.element.specs.declared.clmul.Half.the-variants.{Low, High}
+use Rattle.vector.specs.declared.execute.Multiplier.{Multiplier}
+use Rattle.vector.specs.declared.execute.Multiplier.the-variants.{Vs1, Scalar}
+use Rattle.element.specs.Clmul.{halfOf, clmul64}
+use Rattle.element.specs.Element.{readLe, writeLe, elementAt, maskBit}
+use Rattle.vector.specs.Execute.{active, element, multiplierOf, carrylessResult, carrylessStep, carryless}
+use Rattle.theorems.specs.Execution.{Done}
+use Rattle.theorems.proofs.Bytes.{readLe-same, writeLe-length, writeLe-other, writeLe-read}
+use Rattle.theorems.proofs.Fold.{Except, Does, fold-done}
+use Rattle.theorems.proofs.Registers.{Ready, unread}
+
+-- a multiplier that is a register group is aligned
+abbrev pub AlignedMultiplier : Multiplier → Fields → Settings → Type 0
+AlignedMultiplier Vs1 f s = f .vs1 % s .lmul ≡ 0
+AlignedMultiplier (Scalar x) f s = Unit {0}
+
+-- n bytes are 8n bits
+bytes-bits : (n : ℕ) → 256 ^ n ≡ 2 ^ (8 * n)
+bytes-bits zero = refl
+bytes-bits (suc n) =
+    pow-suc 256 n ∙ ap (λ (x : ℕ). x * 256) (bytes-bits n) ∙ sym (ap (λ (k : ℕ). 2 ^ k) (mul-suc 8 n) ∙ pow-add 2 (8 * n) 8)
+
+half-lt : (which : Half) (sew p : ℕ) → halfOf which sew p < 2 ^ sew
+half-lt Low sew p = mod-lt p (pow-pos sew)
+half-lt High sew p = mod-lt (p / 2 ^ sew) (pow-pos sew)
+
+-- a number is written where the element is active
+write-does : (g : List ℕ) (at width v : ℕ) (b : Bool) → at + width ≤ length g → v < 256 ^ width
+    → Does g (cond b (writeLe width g at v) g) at width b (λ h. readLe h at width) v
+write-does g at width v true room small = record {
+  same-length = writeLe-length width g at v;
+  other = writeLe-other width g at v;
+  skipped = λ e. cc;
+  written = λ e. writeLe-read width g at v room ∙ mod-eq-of-lt small;
+}
+write-does g at width v false room small = record {
+  same-length = refl;
+  other = λ p h. refl;
+  skipped = λ e. refl;
+  written = λ e. cc;
+}
+
+module _
+    (which : Half) (m : Multiplier) (f : Fields) (s : Settings) (file : List ℕ) (ready : Ready (length file) s)
+    (vd-small : f .vd ≤ 31) (vd-aligned : f .vd % s .lmul ≡ 0) (vs2-aligned : f .vs2 % s .lmul ≡ 0) (m-aligned : AlignedMultiplier m f s)
+    (unmasked : (f .vm ≡ 1 → ⊥) → 0 < f .vd)
+  where
+    abbrev place : ℕ → ℕ
+    place i = elementAt (s .vlen) (s .sew) (f .vd) i
+
+    -- element i ends within its group
+    within : (i : ℕ) → i < s .vl → i * (s .sew / 8) + s .sew / 8 ≤ groupLength (s .vlen) (s .lmul)
+    within i h = le-trans (le-of-eq (sym (suc-mul i (s .sew / 8)))) (le-trans (mul-le-mul-right (s .sew / 8) h) (ready .elements-fit))
+
+    apart : (i j : ℕ) → i < j → place i + s .sew / 8 ≤ place j
+    apart i j h = omega (arith, suc-mul i (s .sew / 8), mul-le-mul-right (s .sew / 8) h)
+
+    -- element i of a group is as at entry while only elements before i have been written
+    source : (r i : ℕ) (g : List ℕ) → r % s .lmul ≡ 0 → i < s .vl → Except file g (place (s .vstart)) (place i) → element s g r i ≡ element s file r i
+    source r i g al h x =
+        readLe-same g file (elementAt (s .vlen) (s .sew) r i) (s .sew / 8)
+        (λ p w. x .same p (λ b. unread r (f .vd) (s .lmul) (registerBytes (s .vlen)) (i * (s .sew / 8)) (s .sew / 8) (s .vstart * (s .sew / 8)) p al vd-aligned (within i h) w b))
+
+    multiplier-same : (i : ℕ) (g : List ℕ) → i < s .vl → Except file g (place (s .vstart)) (place i) → multiplierOf m f s g i ≡ multiplierOf m f s file i
+    multiplier-same i g h x = go m m-aligned
+      where
+        go : (n : Multiplier) → AlignedMultiplier n f s → multiplierOf n f s g i ≡ multiplierOf n f s file i
+        go Vs1 al = source (f .vs1) i g al h x
+        go (Scalar v) al = refl
+
+    result-same : (i : ℕ) (g : List ℕ) → i < s .vl → Except file g (place (s .vstart)) (place i) → carrylessResult which m f s g i ≡ carrylessResult which m f s file i
+    unfolding carrylessResult
+    result-same i g h x = ap₂ (λ (a b : ℕ). halfOf which (s .sew) (clmul64 a b)) (source (f .vs2) i g vs2-aligned h x) (multiplier-same i g h x)
+
+    -- so are the mask bits, which are not in vd's group
+    active-same : (i : ℕ) (g : List ℕ) → i < s .vl → Except file g (place (s .vstart)) (place i) → active f g i ≡ active f file i
+    unfolding maskBit
+    active-same i g h x = go (eqb (f .vm) 1) refl
+      where
+        go : (b : Bool) → eqb (f .vm) 1 ≡ b → b || eqb (maskBit g i) 1 ≡ (b || eqb (maskBit file i) 1)
+        go true e = refl
+        go false e =
+            ap (λ (y : ℕ). eqb (y / 2 ^ (i % 8) % 2) 1)
+            (x .same (i / 8) (λ b. omega (arith, ready .masks-fit, mul-le-mul-right (registerBytes (s .vlen)) (unmasked (eqb-false (f .vm) 1 e)), one-mul (registerBytes (s .vlen)))))
+
+    result-lt : (i : ℕ) → carrylessResult which m f s file i < 256 ^ (s .sew / 8)
+    unfolding carrylessResult
+    result-lt i =
+        subst (λ (n : ℕ). carrylessResult which m f s file i < n) (ap (λ (k : ℕ). 2 ^ k) (ready .sew-bytes) ∙ sym (bytes-bits (s .sew / 8)))
+        (half-lt which (s .sew) (clmul64 (element s file (f .vs2) i) (multiplierOf m f s file i)))
+
+    step : (i : ℕ) (g : List ℕ) → s .vstart ≤ i → i < s .vl → Except file g (place (s .vstart)) (place i)
+        → Does g (carrylessStep which m f s i g) (place i) (s .sew / 8) (active f file i) (λ h. element s h (f .vd) i) (carrylessResult which m f s file i)
+    unfolding carrylessStep
+    step i g lo hi x =
+        let room : place i + s .sew / 8 ≤ length g = omega (arith, x .same-length, within i hi, ready .in-file (f .vd) vd-small vd-aligned) in
+        subst (λ (next : List ℕ). Does g next (place i) (s .sew / 8) (active f file i) (λ h. element s h (f .vd) i) (carrylessResult which m f s file i))
+        (sym (ap₂ (λ (a : Bool) (v : ℕ). cond a (writeLe (s .sew / 8) g (place i) v) g) (active-same i g hi x) (result-same i g hi x)))
+        (write-does g (place i) (s .sew / 8) (carrylessResult which m f s file i) (active f file i) room (result-lt i))
+
+    pub elements-done : Done file (carryless which m f s file) (s .vstart) (s .vl) (s .sew / 8) place (active f file)
+        (λ i g. element s g (f .vd) i) (carrylessResult which m f s file)
+    unfolding carryless
+    elements-done =
+        fold-done file place (s .sew / 8) (s .vstart) (s .vl) (carrylessStep which m f s) (active f file) (λ i g. element s g (f .vd) i)
+        (carrylessResult which m f s file) apart (λ g h i e. readLe-same g h (place i) (s .sew / 8) e) step

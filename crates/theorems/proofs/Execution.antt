@@ -1,0 +1,131 @@
+-- A word that is not refused does what document 01 says, unit by unit (`every-unit`, `every-other-byte`): each active element or group
+-- in range holds the result computed from the file at entry, and every other byte is as at entry. Nothing is asked of vd, vs1 and vs2
+-- beyond the refusals: vd equal to vs1 or vs2 is no exception. `nothing-done`: where vstart is at or past vl, the file stays.
+-- Assumes nothing.
+use mathlib.Core.Bool.{Bool, true, false, cond, not, _&&_, _||_}
+use mathlib.Core.List.{List}
+use mathlib.Core.Path.{_≡_, refl, sym, ap, subst, _∙_}
+use Prim.Native.Nat.{ℕ, _-_, _/_, _%_, _<_, _≤_}
+use native.Mathlib.Nat.{pos-of-ne-zero}
+use native.Mathlib.Omega.{arith}
+use borrow.Author.Tests.{eqb-true, eqb-false, eq-eqb, not-false}
+use lib.Dec.{eqb}
+use lib.ListN.{length, getD}
+use Rattle.decoder.specs.declared.settings.Settings.{Settings}
+use Rattle.word.specs.declared.Fields.{Fields}
+use Rattle.word.specs.declared.Kind.{Kind}
+use Rattle.word.specs.declared.Kind.the-variants.{VclmulVv, VclmulVx, VclmulhVv, VclmulhVx, VghshVv, VghshVs, VgmulVv, VgmulVs}
+use Rattle.word.specs.declared.Word.{Word}
+use Rattle.word.specs.declared.Word.the-variants.{Known, Unknown}
+use Rattle.decoder.specs.Settings.{misaligned, isVs, hasVs1Group, refusalOf}
+use Rattle.word.specs.Word.{decode}
+use Rattle.word.proofs.Tests.{or-false}
+use Rattle.element.specs.declared.clmul.Half.{Half}
+use Rattle.element.specs.declared.clmul.Half.the-variants.{Low, High}
+use Rattle.vector.specs.declared.execute.Multiplier.{Multiplier}
+use Rattle.vector.specs.declared.execute.Multiplier.the-variants.{Vs1, Scalar}
+use Rattle.vector.specs.declared.execute.Multiplicand.the-variants.{YXorX, YAlone}
+use Rattle.element.specs.Element.{elementAt}
+use Rattle.vector.specs.Execute.{steps, active, element, scalarOf, carrylessResult, carrylessStep, carryless, group, vvStep, vsStep, ghashVv, ghashVs, doneKnown, done, executed}
+use Rattle.vector.proofs.Admitted.{Admitted, admitted-as, performed}
+use Rattle.vector.proofs.Steps.{none-left}
+use Rattle.theorems.specs.Execution.{firstUnit, pastUnit, activeUnit, unitBytes, unitPlace, unitOf, resultOf, Within, Done, WordDone}
+use Rattle.theorems.proofs.Elements.{AlignedMultiplier, elements-done}
+use Rattle.theorems.proofs.Groups.{vv-done, vs-done}
+use Rattle.theorems.proofs.Registers.{Ready, ready, Numbers, numbers, aligned}
+
+-- refusal 8: with vm 0, vd is not the mask register
+unmasked : (vm vd : ℕ) (rest : Bool) → vm ≤ 1 → eqb vm 0 && (eqb vd 0 || rest) ≡ false → (vm ≡ 1 → ⊥) → 0 < vd
+unmasked vm vd rest small h ne =
+    let z : vm ≡ 0 = omega arith in
+    pos-of-ne-zero (eqb-false vd 0 (or-false (eqb vd 0) rest (subst (λ (b : Bool). b && (eqb vd 0 || rest) ≡ false) (eq-eqb vm 0 z) h) .0))
+
+module _ (f : Fields) (s : Settings) (scalar : ℕ) (file : List ℕ) (bytes : (p : ℕ) → getD file p 0 < 256) (n : Numbers f) where
+  -- refusal 6, by the groups that a kind has: vd; vd and vs2; all three
+  vd-of : (k : Kind) → Admitted (length file) k f s → f .vd % s .lmul ≡ 0
+  vd-of k a = aligned (s .lmul) (f .vd) (or-false (misaligned (s .lmul) (f .vd)) _ (a .not6) .0)
+
+  rest-of : (k : Kind) → Admitted (length file) k f s
+      → (not (isVs k) && misaligned (s .lmul) (f .vs2) ≡ false) × (hasVs1Group k && misaligned (s .lmul) (f .vs1) ≡ false)
+  rest-of k a =
+      or-false (not (isVs k) && misaligned (s .lmul) (f .vs2)) (hasVs1Group k && misaligned (s .lmul) (f .vs1))
+      (or-false (misaligned (s .lmul) (f .vd)) _ (a .not6) .1)
+
+  settings : (k : Kind) → Admitted (length file) k f s → Ready (length file) s
+  settings k a = ready (length file) s (a .not1) (a .not3)
+
+  sew32 : not (eqb (s .sew) 32) ≡ false → s .sew ≡ 32
+  sew32 h = eqb-true (s .sew) 32 (not-false (eqb (s .sew) 32) h)
+
+  elements : (which : Half) (m : Multiplier) (k : Kind) → Admitted (length file) k f s → misaligned (s .lmul) (f .vs2) ≡ false → AlignedMultiplier m f s
+      → Done file (carryless which m f s file) (s .vstart) (s .vl) (s .sew / 8) (elementAt (s .vlen) (s .sew) (f .vd)) (active f file)
+      (λ i g. element s g (f .vd) i) (carrylessResult which m f s file)
+  elements which m k a vs2 vs1 =
+      elements-done which m f s file (settings k a) (n .vd-small) (vd-of k a) (aligned (s .lmul) (f .vs2) vs2) vs1
+      (unmasked (f .vm) (f .vd) _ (n .vm-small) (a .not8))
+
+  by-kind : (k : Kind) → Admitted (length file) k f s → WordDone k f s scalar file (doneKnown k f s scalar file)
+  unfolding carrylessResult
+  by-kind VclmulVv a = elements Low Vs1 VclmulVv a (rest-of VclmulVv a .0) (aligned (s .lmul) (f .vs1) (rest-of VclmulVv a .1))
+  by-kind VclmulVx a = elements Low (Scalar (scalarOf f s scalar)) VclmulVx a (rest-of VclmulVx a .0) tt
+  by-kind VclmulhVv a = elements High Vs1 VclmulhVv a (rest-of VclmulhVv a .0) (aligned (s .lmul) (f .vs1) (rest-of VclmulhVv a .1))
+  by-kind VclmulhVx a = elements High (Scalar (scalarOf f s scalar)) VclmulhVx a (rest-of VclmulhVx a .0) tt
+  by-kind VghshVv a =
+      vv-done YXorX f s file bytes (settings VghshVv a) (n .vd-small) (vd-of VghshVv a) (aligned (s .lmul) (f .vs1) (rest-of VghshVv a .1)) (sew32 (a .not4))
+      (aligned (s .lmul) (f .vs2) (rest-of VghshVv a .0))
+  by-kind VghshVs a =
+      vs-done YXorX f s file bytes (settings VghshVs a) (n .vd-small) (vd-of VghshVs a) (aligned (s .lmul) (f .vs1) (rest-of VghshVs a .1)) (sew32 (a .not4))
+  by-kind VgmulVv a =
+      vv-done YAlone f s file bytes (settings VgmulVv a) (n .vd-small) (vd-of VgmulVv a) tt (sew32 (a .not4)) (aligned (s .lmul) (f .vs2) (rest-of VgmulVv a .0))
+  by-kind VgmulVs a = vs-done YAlone f s file bytes (settings VgmulVs a) (n .vd-small) (vd-of VgmulVs a) tt (sew32 (a .not4))
+
+module _
+    (word : ℕ) (s : Settings) (scalar : ℕ) (file : List ℕ) (bytes : (p : ℕ) → getD file p 0 < 256) (number : refusalOf (length file) word s ≡ 0)
+    (k : Kind) (f : Fields) (known : decode word ≡ Known k f)
+  where
+    pub word-done : WordDone k f s scalar file (executed word s scalar file)
+    word-done =
+        subst (WordDone k f s scalar file) (ap (λ (w : Word). done w s scalar file) (sym known) ∙ performed word s scalar file number .1)
+        (by-kind f s scalar file bytes (numbers word known) k (admitted-as (length file) word s known number))
+
+    -- each active element or group in range holds the result computed from the file at entry
+    pub every-unit : (i : ℕ) → firstUnit k s ≤ i → i < pastUnit k s → activeUnit k f file i ≡ true
+        → unitOf k f s i (executed word s scalar file) ≡ resultOf k f s scalar file i
+    every-unit = word-done .results
+
+    -- every other byte is as at entry
+    pub every-other-byte : (p : ℕ)
+        → ((i : ℕ) → firstUnit k s ≤ i → i < pastUnit k s → activeUnit k f file i ≡ true → Within (unitPlace k f s i) (unitBytes k s) p → ⊥)
+        → getD (executed word s scalar file) p 0 ≡ getD file p 0
+    every-other-byte = word-done .others
+
+module _ (s : Settings) (scalar : ℕ) (file : List ℕ) (past : s .vl ≤ s .vstart) where
+  no-elements : (S : ℕ → List ℕ → List ℕ) → steps S (s .vl - s .vstart) (s .vstart) file ≡ file
+  no-elements S = sym (none-left S (s .vl) (s .vstart) file past refl)
+
+  no-groups : (S : ℕ → List ℕ → List ℕ) → steps S (s .vl / 4 - s .vstart / 4) (s .vstart / 4) file ≡ file
+  no-groups S = sym (none-left S (s .vl / 4) (s .vstart / 4) file (omega arith) refl)
+
+  idle : (k : Kind) (f : Fields) → doneKnown k f s scalar file ≡ file
+  unfolding carryless ghashVv ghashVs
+  idle VclmulVv f = no-elements (carrylessStep Low Vs1 f s)
+  idle VclmulVx f = no-elements (carrylessStep Low (Scalar (scalarOf f s scalar)) f s)
+  idle VclmulhVv f = no-elements (carrylessStep High Vs1 f s)
+  idle VclmulhVx f = no-elements (carrylessStep High (Scalar (scalarOf f s scalar)) f s)
+  idle VghshVv f = no-groups (vvStep YXorX f s)
+  idle VghshVs f = no-groups (vsStep (group s file (f .vs2) 0) YXorX f s)
+  idle VgmulVv f = no-groups (vvStep YAlone f s)
+  idle VgmulVs f = no-groups (vsStep (group s file (f .vs2) 0) YAlone f s)
+
+  idle-word : (w : Word) → done w s scalar file ≡ file
+  idle-word Unknown = refl
+  idle-word (Known k f) = idle k f
+
+  -- where vstart is at or past vl, the file stays
+  pub nothing-done : (word : ℕ) → executed word s scalar file ≡ file
+  unfolding executed
+  nothing-done word = go (eqb (refusalOf (length file) word s) 0)
+    where
+      go : (b : Bool) → cond b (done (decode word) s scalar file) file ≡ file
+      go true = idle-word (decode word)
+      go false = refl

@@ -1,0 +1,97 @@
+-- A GHASH word's fold: each group in range gets the product computed from the file at entry, and every other byte stays. vd may be vs1
+-- or vs2: group i is read before it is written, and no later one reads it. The key of a .vs word is read once, before any write.
+-- Assumes nothing.
+use mathlib.Core.Bool.{true}
+use mathlib.Core.List.{List}
+use mathlib.Core.Path.{_≡_, sym, ap₂, subst}
+use Prim.Native.Nat.{ℕ, _+_, _*_, _/_, _%_, _^_, _<_, _≤_}
+use native.Mathlib.Omega.{arith}
+use lib.Bits.{bitXor}
+use lib.ListN.{length, getD}
+use Rattle.gf128.specs.Bytes.{blockAt, putBlock}
+use Rattle.gf128.specs.Field.{product}
+use Rattle.gf128.proofs.Bytes.{beAt-lt, blockAt-putBlock, length-putBlock}
+use Rattle.gf128.proofs.Field.{product-lt}
+use Rattle.decoder.specs.declared.settings.Settings.{Settings}
+use Rattle.word.specs.declared.Fields.{Fields}
+use Rattle.decoder.specs.Settings.{registerBytes, groupLength}
+use Rattle.vector.specs.declared.execute.Multiplicand.{Multiplicand}
+use Rattle.vector.specs.declared.execute.Multiplicand.the-variants.{YXorX, YAlone}
+use Rattle.element.specs.Element.{blockPlace}
+use Rattle.vector.specs.Execute.{group, multiplicandOf, vvStep, vsStep, ghashVv, ghashVs}
+use Rattle.theorems.specs.Execution.{Done}
+use Rattle.theorems.proofs.Bytes.{beAt-same, putBlock-other}
+use Rattle.theorems.proofs.Fold.{Except, Does, fold-done}
+use Rattle.theorems.proofs.Registers.{Ready, unread}
+
+-- where X is used, its group is aligned
+abbrev pub AlignedMultiplicand : Multiplicand → Fields → Settings → Type 0
+AlignedMultiplicand YXorX f s = f .vs1 % s .lmul ≡ 0
+AlignedMultiplicand YAlone f s = Unit {0}
+
+put-does : (g : List ℕ) (at v : ℕ) → at + 16 ≤ length g → v < 256 ^ 16 → Does g (putBlock g at v) at 16 true (λ h. blockAt h at) v
+put-does g at v room small = record {
+  same-length = length-putBlock g at v;
+  other = putBlock-other g at v;
+  skipped = λ e. cc;
+  written = λ e. blockAt-putBlock g at v room small;
+}
+
+module _
+    (m : Multiplicand) (f : Fields) (s : Settings) (file : List ℕ) (bytes : (p : ℕ) → getD file p 0 < 256) (ready : Ready (length file) s)
+    (vd-small : f .vd ≤ 31) (vd-aligned : f .vd % s .lmul ≡ 0) (m-aligned : AlignedMultiplicand m f s) (sew32 : s .sew ≡ 32)
+  where
+    abbrev place : ℕ → ℕ
+    place i = blockPlace (s .vlen) (f .vd) i
+
+    group-lt : (r i : ℕ) → group s file r i < 256 ^ 16
+    group-lt r i = beAt-lt file bytes (blockPlace (s .vlen) r i) 16
+
+    -- group i ends within its register group
+    within : (i : ℕ) → i < s .vl / 4 → 16 * i + 16 ≤ groupLength (s .vlen) (s .lmul)
+    within i h =
+        let fits : s .vl * 4 ≤ groupLength (s .vlen) (s .lmul) = subst (λ (w : ℕ). s .vl * (w / 8) ≤ groupLength (s .vlen) (s .lmul)) sew32 (ready .elements-fit) in
+        omega arith
+
+    apart : (i j : ℕ) → i < j → place i + 16 ≤ place j
+    apart i j h = omega arith
+
+    -- group i is as at entry while only groups before i have been written
+    source : (r i : ℕ) (g : List ℕ) → r % s .lmul ≡ 0 → i < s .vl / 4 → Except file g (place (s .vstart / 4)) (place i) → group s g r i ≡ group s file r i
+    source r i g al h x =
+        beAt-same g file (blockPlace (s .vlen) r i) 16
+        (λ p w. x .same p (λ b. unread r (f .vd) (s .lmul) (registerBytes (s .vlen)) (16 * i) 16 (16 * (s .vstart / 4)) p al vd-aligned (within i h) w b))
+
+    multiplicand-same : (i : ℕ) (g : List ℕ) → i < s .vl / 4 → Except file g (place (s .vstart / 4)) (place i) → multiplicandOf m f s g i ≡ multiplicandOf m f s file i
+    multiplicand-same i g h x = go m m-aligned
+      where
+        go : (n : Multiplicand) → AlignedMultiplicand n f s → multiplicandOf n f s g i ≡ multiplicandOf n f s file i
+        go YXorX al = ap₂ bitXor (source (f .vd) i g vd-aligned h x) (source (f .vs1) i g al h x)
+        go YAlone al = source (f .vd) i g vd-aligned h x
+
+    -- a step that puts the product of the multiplicand and a key that is told by the file at entry
+    put-step : (i : ℕ) (g : List ℕ) (h : ℕ) → h < 256 ^ 16 → i < s .vl / 4 → Except file g (place (s .vstart / 4)) (place i)
+        → Does g (putBlock g (place i) (product (multiplicandOf m f s g i) h)) (place i) 16 true (λ l. group s l (f .vd) i) (product (multiplicandOf m f s file i) h)
+    put-step i g h small hi x =
+        let room : place i + 16 ≤ length g = omega (arith, x .same-length, within i hi, ready .in-file (f .vd) vd-small vd-aligned) in
+        subst (λ (u : ℕ). Does g (putBlock g (place i) (product u h)) (place i) 16 true (λ l. group s l (f .vd) i) (product (multiplicandOf m f s file i) h))
+        (sym (multiplicand-same i g hi x))
+        (put-does g (place i) (product (multiplicandOf m f s file i) h) room (product-lt (multiplicandOf m f s file i) h small))
+
+    pub vv-done : f .vs2 % s .lmul ≡ 0 → Done file (ghashVv m f s file) (s .vstart / 4) (s .vl / 4) 16 place (λ i. true)
+        (λ i g. group s g (f .vd) i) (λ i. product (multiplicandOf m f s file i) (group s file (f .vs2) i))
+    unfolding ghashVv vvStep
+    vv-done vs2-aligned =
+        fold-done file place 16 (s .vstart / 4) (s .vl / 4) (vvStep m f s) (λ i. true) (λ i g. group s g (f .vd) i)
+        (λ i. product (multiplicandOf m f s file i) (group s file (f .vs2) i)) apart (λ g h i e. beAt-same g h (place i) 16 e)
+        (λ i g lo hi x.
+        subst (λ (k : ℕ). Does g (putBlock g (place i) (product (multiplicandOf m f s g i) k)) (place i) 16 true (λ l. group s l (f .vd) i) (product (multiplicandOf m f s file i) (group s file (f .vs2) i)))
+        (sym (source (f .vs2) i g vs2-aligned hi x)) (put-step i g (group s file (f .vs2) i) (group-lt (f .vs2) i) hi x))
+
+    pub vs-done : Done file (ghashVs m f s file) (s .vstart / 4) (s .vl / 4) 16 place (λ i. true)
+        (λ i g. group s g (f .vd) i) (λ i. product (multiplicandOf m f s file i) (group s file (f .vs2) 0))
+    unfolding ghashVs vsStep
+    vs-done =
+        fold-done file place 16 (s .vstart / 4) (s .vl / 4) (vsStep (group s file (f .vs2) 0) m f s) (λ i. true) (λ i g. group s g (f .vd) i)
+        (λ i. product (multiplicandOf m f s file i) (group s file (f .vs2) 0)) apart (λ g h i e. beAt-same g h (place i) 16 e)
+        (λ i g lo hi x. put-step i g (group s file (f .vs2) 0) (group-lt (f .vs2) 0) hi x)

@@ -1,0 +1,9 @@
+pub mod Bytes
+pub mod Changed
+pub mod Elements
+pub mod Execution
+pub mod Fold
+pub mod Groups
+pub mod Marked
+pub mod Pseudocode
+pub mod Registers

@@ -1,0 +1,124 @@
+-- Register groups of words that are not refused: a group lies in the file, and two groups are equal or apart, so that bytes of another
+-- group are never among those of the units written before (`unread`).
+-- Assumes nothing.
+use mathlib.Core.Bool.{Bool, true, false, cond, not, _||_}
+use mathlib.Core.List.{List, [], _∷_}
+use mathlib.Core.Logic.{⊎-elim}
+use mathlib.Core.Path.{_≡_, sym, ap, subst}
+use Prim.Native.Nat.{ℕ, _+_, _*_, _/_, _%_, _^_, _<_, _≤_}
+use native.Mathlib.Decide.{decLe}
+use native.Mathlib.Nat.{le-div-iff-mul-le, div-add-mod', mul-le-mul-right, suc-mul, le-mul-of-pos-right, le-trans, lt-of-not-le, mul-left-comm, add-mul, mod-lt, zero-lt-suc, eq-or-lt-of-le, le-of-suc-le-suc, le-of-eq}
+use native.Mathlib.Omega.{arith}
+use borrow.Author.Tests.{eqb-true, ltb-false, not-false}
+use lib.Dec.{eqb, ltb}
+use Rattle.decoder.specs.declared.settings.Settings.{Settings}
+use Rattle.word.specs.declared.Fields.{Fields}
+use Rattle.word.specs.declared.Kind.{Kind}
+use Rattle.word.specs.declared.Word.the-variants.{Known}
+use Rattle.decoder.specs.Settings.{applies1, applies3, registerBytes, fileBytes, groupLength, vlenAllowed, sewAllowed, lmulAllowed, vlmax, misaligned}
+use Rattle.word.specs.Word.{among, kinds, decode, isRow, row, fieldsOf}
+use Rattle.decoder.proofs.Allowed.{vlen-cases, lmul-cases}
+use Rattle.decoder.proofs.Groups.{last-register, registers-within}
+use Rattle.word.proofs.Tests.{or-false}
+use Rattle.element.proofs.Sew.{sew-cases, sew-facts}
+use Rattle.theorems.specs.Execution.{Within}
+
+-- ---- what the settings tell
+
+pub record Ready (fileLength : ℕ) (s : Settings) : Type 0 where
+  pub in-file : (r : ℕ) → r ≤ 31 → r % s .lmul ≡ 0 → r * registerBytes (s .vlen) + groupLength (s .vlen) (s .lmul) ≤ fileLength
+  pub lmul-positive : 0 < s .lmul
+  pub sew-bytes : s .sew ≡ 8 * (s .sew / 8)
+  -- the elements fit the group, and their mask bits register 0
+  pub elements-fit : s .vl * (s .sew / 8) ≤ groupLength (s .vlen) (s .lmul)
+  pub masks-fit : s .vl ≤ 8 * registerBytes (s .vlen)
+
+eights : (sew : ℕ) → sewAllowed sew ≡ true → sew ≡ 8 * (sew / 8)
+eights sew h =
+    ⊎-elim (λ e. omega arith) (⊎-elim (λ e. omega arith) (⊎-elim (λ e. omega arith) (λ e. omega arith))) (sew-cases sew h)
+
+vlen-eights : (vlen : ℕ) → vlenAllowed vlen ≡ true → vlen ≡ 8 * (vlen / 8)
+vlen-eights vlen h = ⊎-elim (λ e. omega arith) (⊎-elim (λ e. omega arith) (λ e. omega arith)) (vlen-cases vlen h)
+
+lmul-range : (lmul : ℕ) → lmulAllowed lmul ≡ true → (0 < lmul) × (lmul ≤ 8)
+lmul-range lmul h =
+    ⊎-elim (λ e. (omega arith, omega arith))
+    (⊎-elim (λ e. (omega arith, omega arith)) (⊎-elim (λ e. (omega arith, omega arith)) (λ e. (omega arith, omega arith)))) (lmul-cases lmul h)
+
+-- vl elements of w bytes, where vl is at most lmul · 8v / 8w
+fit : (vl lmul v w : ℕ) → 0 < w → vl ≤ lmul * (8 * v) / (8 * w) → vl * w ≤ lmul * v
+fit vl lmul v w hw h =
+    let bytes : 0 < 8 * w = omega arith in
+    let many : vl * (8 * w) ≤ lmul * (8 * v) = le-div-iff-mul-le bytes .0 h in
+    omega (arith, mul-left-comm vl 8 w, mul-left-comm lmul 8 v)
+
+pub ready : (fileLength : ℕ) (s : Settings) → applies1 fileLength (s .vlen) ≡ false → applies3 s ≡ false → Ready fileLength s
+ready fileLength s h1 h3 =
+    let p1 = or-false (not (vlenAllowed (s .vlen))) (not (eqb fileLength (fileBytes (s .vlen)))) h1 in
+    let hv = not-false (vlenAllowed (s .vlen)) (p1 .0) in
+    let hf = eqb-true fileLength (fileBytes (s .vlen)) (not-false (eqb fileLength (fileBytes (s .vlen))) (p1 .1)) in
+    let p3 = or-false (not (sewAllowed (s .sew))) (not (lmulAllowed (s .lmul)) || ltb (vlmax (s .vlen) (s .sew) (s .lmul)) (s .vl)) h3 in
+    let hs = not-false (sewAllowed (s .sew)) (p3 .0) in
+    let p4 = or-false (not (lmulAllowed (s .lmul))) (ltb (vlmax (s .vlen) (s .sew) (s .lmul)) (s .vl)) (p3 .1) in
+    let hl = not-false (lmulAllowed (s .lmul)) (p4 .0) in
+    let most = ltb-false (vlmax (s .vlen) (s .sew) (s .lmul)) (s .vl) (p4 .1) in
+    let range = lmul-range (s .lmul) hl in
+    let w8 = eights (s .sew) hs in
+    let w : 0 < s .sew / 8 = omega (arith, sew-facts (s .sew) hs .positive) in
+    let fits : s .vl * (s .sew / 8) ≤ s .lmul * (s .vlen / 8) =
+    fit (s .vl) (s .lmul) (s .vlen / 8) (s .sew / 8) w
+    (subst (λ (x : ℕ). s .vl ≤ s .lmul * x / (8 * (s .sew / 8))) (vlen-eights (s .vlen) hv) (subst (λ (x : ℕ). s .vl ≤ s .lmul * s .vlen / x) w8 most)) in
+    record {
+      in-file = λ r hr al. subst (λ (n : ℕ). r * registerBytes (s .vlen) + groupLength (s .vlen) (s .lmul) ≤ n) (sym hf)
+          (registers-within (s .vlen) r (s .lmul) hv (last-register (s .lmul) r hl hr al));
+      lmul-positive = range .0;
+      sew-bytes = w8;
+      elements-fit = fits;
+      masks-fit = le-trans (le-mul-of-pos-right (s .vl) w) (le-trans fits (mul-le-mul-right (s .vlen / 8) (range .1)));
+    }
+
+-- ---- what the fields tell
+
+pub record Numbers (f : Fields) : Type 0 where
+  pub vm-small : f .vm ≤ 1
+  pub vd-small : f .vd ≤ 31
+
+among-fields : (ks : List Kind) (word : ℕ) {k : Kind} {f : Fields} → among ks word ≡ Known k f → fieldsOf word ≡ f
+among-fields [] word e = cc
+among-fields (a ∷ ks) word {k} {f} e = go (isRow (row a) word) (among-fields ks word) e
+  where
+    go : (b : Bool) → (among ks word ≡ Known k f → fieldsOf word ≡ f) → cond b (Known a (fieldsOf word)) (among ks word) ≡ Known k f → fieldsOf word ≡ f
+    go true rest e = cc
+    go false rest e = rest e
+
+pub numbers : (word : ℕ) {k : Kind} {f : Fields} → decode word ≡ Known k f → Numbers f
+unfolding decode
+numbers word {k} {f} e =
+    subst Numbers (among-fields kinds word e)
+    (record { vm-small = le-of-suc-le-suc (mod-lt (word / 2 ^ 25) (zero-lt-suc 1)); vd-small = le-of-suc-le-suc (mod-lt (word / 2 ^ 7) (zero-lt-suc 31)) })
+
+pub aligned : (lmul r : ℕ) → misaligned lmul r ≡ false → r % lmul ≡ 0
+aligned lmul r h = eqb-true (r % lmul) 0 (not-false (eqb (r % lmul) 0) h)
+
+-- ---- two groups
+
+-- the next multiple of lmul is lmul further
+next-group : (lmul a b : ℕ) → a % lmul ≡ 0 → b % lmul ≡ 0 → a < b → a + lmul ≤ b
+next-group lmul a b ha hb h = go (decLe (b / lmul) (a / lmul))
+  where
+    go : Dec (b / lmul ≤ a / lmul) → a + lmul ≤ b
+    go (yes l) = absurd (omega (arith, mul-le-mul-right lmul l, div-add-mod' a lmul, div-add-mod' b lmul))
+    go (no l) = omega (arith, mul-le-mul-right lmul (lt-of-not-le l), suc-mul (a / lmul) lmul, div-add-mod' a lmul, div-add-mod' b lmul)
+
+-- a unit of x + width bytes at most lies in its group; no byte of unit x of a group at r is one of the group at vd before unit x
+pub unread : (r vd lmul v x width low p : ℕ) → r % lmul ≡ 0 → vd % lmul ≡ 0 → x + width ≤ lmul * v
+    → Within (r * v + x) width p → (vd * v + low ≤ p) × (p < vd * v + x) → ⊥
+unread r vd lmul v x width low p hr hd fits w b = go (decLe r vd)
+  where
+    -- the group at a ends where the group at c starts, or before
+    before : (a c : ℕ) → a % lmul ≡ 0 → c % lmul ≡ 0 → a < c → a * v + lmul * v ≤ c * v
+    before a c ha hc l = le-trans (le-of-eq (sym (add-mul a lmul v))) (mul-le-mul-right v (next-group lmul a c ha hc l))
+
+    go : Dec (r ≤ vd) → ⊥
+    go (yes h) = ⊎-elim (λ e. omega (arith, ap (λ (q : ℕ). q * v) e)) (λ l. omega (arith, before r vd hr hd l)) (eq-or-lt-of-le h)
+    go (no h) = omega (arith, before vd r hd hr (lt-of-not-le h))

@@ -1,0 +1,3 @@
+pub mod Changed
+pub mod Execution
+pub mod Marked

@@ -1,0 +1,1 @@
+// Theorems about the definitions, for readers. There is no code here: no edit of the code below checks them again.
