@@ -9,18 +9,14 @@ use lib.Bits.{bitXor, xor-comm}
 use Rattle.gf128.specs.Field.{coeffOf, timesXOf, shiftedOf, sumOf, productOf, product, reduction}
 use Rattle.gf128.specs.Hash.{next, over, messageOf, ghash}
 
--- times x
-unfoldable pub quickX : ℕ → ℕ → ℕ
-quickX R v = bitXor (v % 2 * R) (v / 2)
-
 -- the loop's last d steps, from V and Z on
 unfoldable pub quickSteps : ℕ → ℕ → ℕ → ℕ → ℕ → ℕ
 quickSteps R u zero v z = z
-quickSteps R u (suc d) v z = quickSteps R u d (quickX R v) (bitXor (u / 2 ^ d % 2 * v) z)
+quickSteps R u (suc d) v z = quickSteps R u d (bitXor (v % 2 * R) (v / 2)) (bitXor (u / 2 ^ d % 2 * v) z)
 
 module _ (m R u h : ℕ) where
   steps-left : (d k : ℕ) → k + d ≡ suc m → quickSteps R u d (shiftedOf R h k) (sumOf m R u h k) ≡ productOf m R u h
-  unfolding quickSteps quickX productOf sumOf shiftedOf timesXOf coeffOf
+  unfolding quickSteps productOf sumOf shiftedOf timesXOf coeffOf
   steps-left zero k e = ap (sumOf m R u h) (sym (add-zero k) ∙ e)
   steps-left (suc d) k e =
       let p : d ≡ m - k = omega arith in

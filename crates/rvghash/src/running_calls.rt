@@ -1,10 +1,10 @@
 // The running hash that the caller lends, updated where it lies. Each function hands it by value to one that does the work.
 ghost use mathlib.Core.Path.{_≡_};
-ghost use Rattle.gf128.specs.Running.{fresh, feedARefusal, feedCRefusal, afterFeedA, afterFeedC};
-ghost use Rattle.running.specs.State.{view, Feeds};
+ghost use Rattle.gf128.specs.Running.{fresh};
+ghost use Rattle.running.specs.State.{view};
 ghost use Rattle.field.specs.Block.{valueOf};
-ghost use Rattle.rvghash.specs.Out.{outNumber, outBytes, finishNumber, finishState, finishOut};
-ghost use Rattle.rvghash.specs.Lent.{stateFor};
+ghost use Rattle.rvghash.specs.Out.{outNumber, outBytes};
+ghost use Rattle.rvghash.specs.Lent.{FeedsA, FeedsC, FinishesInto, stateFor};
 use crate::out::put_answer;
 use field::product::Answer;
 use running::Fed;
@@ -28,8 +28,7 @@ pub extern "C" fn rvghash_running_new(state: &mut Running)
 // Takes a piece of A.
 #[no_mangle]
 pub extern "C" fn rvghash_feed_a(state: &mut Running, key: &[u8], piece: &[u8]) -> u32
-    ensures { λ r. ⌜ Feeds (feedARefusal (now (key .entry)) (view (now (state .entry))) (now (piece .entry)))
-        (afterFeedA (now (key .entry)) (view (now (state .entry))) (now (piece .entry))) (now (state .entry)) r (now (state .exit)) ⌝ }
+    ensures { λ r. ⌜ FeedsA (now (key .entry)) (now (state .entry)) (now (piece .entry)) r (now (state .exit)) ⌝ }
 {
     let f = fed_a_fast(*state, key, piece);
     *state = f.state;
@@ -39,8 +38,7 @@ pub extern "C" fn rvghash_feed_a(state: &mut Running, key: &[u8], piece: &[u8]) 
 // The same on the plain path.
 #[no_mangle]
 pub extern "C" fn rvghash_feed_a_plain(state: &mut Running, key: &[u8], piece: &[u8]) -> u32
-    ensures { λ r. ⌜ Feeds (feedARefusal (now (key .entry)) (view (now (state .entry))) (now (piece .entry)))
-        (afterFeedA (now (key .entry)) (view (now (state .entry))) (now (piece .entry))) (now (state .entry)) r (now (state .exit)) ⌝ }
+    ensures { λ r. ⌜ FeedsA (now (key .entry)) (now (state .entry)) (now (piece .entry)) r (now (state .exit)) ⌝ }
 {
     let f = fed_a_plain(*state, key, piece);
     *state = f.state;
@@ -50,8 +48,7 @@ pub extern "C" fn rvghash_feed_a_plain(state: &mut Running, key: &[u8], piece: &
 // Takes a piece of C.
 #[no_mangle]
 pub extern "C" fn rvghash_feed_c(state: &mut Running, key: &[u8], piece: &[u8]) -> u32
-    ensures { λ r. ⌜ Feeds (feedCRefusal (now (key .entry)) (view (now (state .entry))) (now (piece .entry)))
-        (afterFeedC (now (key .entry)) (view (now (state .entry))) (now (piece .entry))) (now (state .entry)) r (now (state .exit)) ⌝ }
+    ensures { λ r. ⌜ FeedsC (now (key .entry)) (now (state .entry)) (now (piece .entry)) r (now (state .exit)) ⌝ }
 {
     let f = fed_c_fast(*state, key, piece);
     *state = f.state;
@@ -61,8 +58,7 @@ pub extern "C" fn rvghash_feed_c(state: &mut Running, key: &[u8], piece: &[u8]) 
 // The same on the plain path.
 #[no_mangle]
 pub extern "C" fn rvghash_feed_c_plain(state: &mut Running, key: &[u8], piece: &[u8]) -> u32
-    ensures { λ r. ⌜ Feeds (feedCRefusal (now (key .entry)) (view (now (state .entry))) (now (piece .entry)))
-        (afterFeedC (now (key .entry)) (view (now (state .entry))) (now (piece .entry))) (now (state .entry)) r (now (state .exit)) ⌝ }
+    ensures { λ r. ⌜ FeedsC (now (key .entry)) (now (state .entry)) (now (piece .entry)) r (now (state .exit)) ⌝ }
 {
     let f = fed_c_plain(*state, key, piece);
     *state = f.state;
@@ -91,17 +87,13 @@ fn finished_into(f: Finished, state: Running, out: &mut [u8]) -> Fed
 }
 
 fn finished_into_fast(state: Running, key: &[u8], out: &mut [u8]) -> Fed
-    ensures { λ r. ⌜ Feeds (finishNumber (now (key .entry)) (view state) (now (out .entry)))
-        (finishState (now (key .entry)) (view state) (now (out .entry))) state (r .number) (r .state)
-        × (now (out .exit) ≡ finishOut (now (key .entry)) (view state) (now (out .entry))) ⌝ }
+    ensures { λ r. ⌜ FinishesInto (now (key .entry)) state (now (out .entry)) (r .number) (r .state) (now (out .exit)) ⌝ }
 {
     finished_into(finished_fast(state, key), state, out)
 }
 
 fn finished_into_plain(state: Running, key: &[u8], out: &mut [u8]) -> Fed
-    ensures { λ r. ⌜ Feeds (finishNumber (now (key .entry)) (view state) (now (out .entry)))
-        (finishState (now (key .entry)) (view state) (now (out .entry))) state (r .number) (r .state)
-        × (now (out .exit) ≡ finishOut (now (key .entry)) (view state) (now (out .entry))) ⌝ }
+    ensures { λ r. ⌜ FinishesInto (now (key .entry)) state (now (out .entry)) (r .number) (r .state) (now (out .exit)) ⌝ }
 {
     finished_into(finished_plain(state, key), state, out)
 }
@@ -109,9 +101,7 @@ fn finished_into_plain(state: Running, key: &[u8], out: &mut [u8]) -> Fed
 // Finishes the lent running hash, and writes the hash to `out`.
 #[no_mangle]
 pub extern "C" fn rvghash_finish(state: &mut Running, key: &[u8], out: &mut [u8]) -> u32
-    ensures { λ r. ⌜ Feeds (finishNumber (now (key .entry)) (view (now (state .entry))) (now (out .entry)))
-        (finishState (now (key .entry)) (view (now (state .entry))) (now (out .entry))) (now (state .entry)) r (now (state .exit))
-        × (now (out .exit) ≡ finishOut (now (key .entry)) (view (now (state .entry))) (now (out .entry))) ⌝ }
+    ensures { λ r. ⌜ FinishesInto (now (key .entry)) (now (state .entry)) (now (out .entry)) r (now (state .exit)) (now (out .exit)) ⌝ }
 {
     let f = finished_into_fast(*state, key, out);
     *state = f.state;
@@ -121,9 +111,7 @@ pub extern "C" fn rvghash_finish(state: &mut Running, key: &[u8], out: &mut [u8]
 // The same on the plain path.
 #[no_mangle]
 pub extern "C" fn rvghash_finish_plain(state: &mut Running, key: &[u8], out: &mut [u8]) -> u32
-    ensures { λ r. ⌜ Feeds (finishNumber (now (key .entry)) (view (now (state .entry))) (now (out .entry)))
-        (finishState (now (key .entry)) (view (now (state .entry))) (now (out .entry))) (now (state .entry)) r (now (state .exit))
-        × (now (out .exit) ≡ finishOut (now (key .entry)) (view (now (state .entry))) (now (out .entry))) ⌝ }
+    ensures { λ r. ⌜ FinishesInto (now (key .entry)) (now (state .entry)) (now (out .entry)) r (now (state .exit)) (now (out .exit)) ⌝ }
 {
     let f = finished_into_plain(*state, key, out);
     *state = f.state;

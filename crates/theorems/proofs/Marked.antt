@@ -13,7 +13,7 @@ use lib.ListN.{getD}
 use Rattle.gf128.specs.Bytes.{beAt}
 use Rattle.gf128.specs.Hash.{next, blocksFrom, blocksOf, lengthBlock, messageOf}
 use Rattle.gf128.specs.StepBack.{IsBlock, StepsBack}
-use Rattle.gf128.proofs.Computed.{quickX, quickSteps, quickProduct, quickOver, quickGhash, quick-product, quick-ghash}
+use Rattle.gf128.proofs.Computed.{quickSteps, quickProduct, quickOver, quickGhash, quick-product, quick-ghash}
 use Rattle.gf128.proofs.Field.{inverseOf, inverse-lt, inverse-product}
 use Rattle.gf128.proofs.Places.{and-left, and-right}
 use Rattle.gf128.proofs.Solve.{earlier, earlier-only}
@@ -140,5 +140,5 @@ all-show [] t = tt
 all-show (c ∷ cs) t = (shows c (and-left (right c) (allRight cs) t), all-show cs (and-right (right c) (allRight cs) t))
 
 pub marked : MarkedCasesHold
-unfolding table allRight right goesBack numbersOf place same quickX quickSteps quickProduct quickOver quickGhash beAt blocksFrom blocksOf lengthBlock messageOf decode clmul clmul64
+unfolding table allRight right goesBack numbersOf place same quickSteps quickProduct quickOver quickGhash beAt blocksFrom blocksOf lengthBlock messageOf decode clmul clmul64
 marked = all-show table tt

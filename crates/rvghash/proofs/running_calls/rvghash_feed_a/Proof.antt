@@ -1,8 +1,7 @@
 -- `rvghash_feed_a` meets its contract, by the walk of `Lent.antt`: it hands the lent running hash to `fed_a_fast`.
 -- Assumes nothing.
 use mir.Syntax.{imm}
-use Rattle.gf128.specs.Running.{feedARefusal, afterFeedA}
-use Rattle.running.specs.State.{view, Feeds}
+use Rattle.rvghash.specs.Lent.{FeedsA}
 use Rattle.running.proofs.fed_a_fast.Symbol.{name as #g, routine}
 use Rattle.running.proofs.fed_a_fast.Met.{met}
 use Rattle.rvghash.proofs.Lent.{Says, lent-meets}
@@ -11,7 +10,7 @@ use Rattle.rvghash.proofs.running_calls.rvghash_feed_a.Statement.{state
 use Rattle.rvghash.proofs.running_calls.rvghash_feed_a.Code as code
 
 abbrev said : Says
-said key s piece number t _ = Feeds (feedARefusal key (view s) piece) (afterFeedA key (view s) piece) s number t
+said key s piece number t _ = FeedsA key s piece number t
 
 pub rvghash-feed-a-spec : {M : Type 1} → statement M
 unfolding code.routine

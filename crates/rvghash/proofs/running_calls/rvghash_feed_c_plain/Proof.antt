@@ -1,8 +1,7 @@
 -- `rvghash_feed_c_plain` meets its contract, by the walk of `Lent.antt`: it hands the lent running hash to `fed_c_plain`.
 -- Assumes nothing.
 use mir.Syntax.{imm}
-use Rattle.gf128.specs.Running.{feedCRefusal, afterFeedC}
-use Rattle.running.specs.State.{view, Feeds}
+use Rattle.rvghash.specs.Lent.{FeedsC}
 use Rattle.running.proofs.fed_c_plain.Symbol.{name as #g, routine}
 use Rattle.running.proofs.fed_c_plain.Met.{met}
 use Rattle.rvghash.proofs.Lent.{Says, lent-meets}
@@ -11,7 +10,7 @@ use Rattle.rvghash.proofs.running_calls.rvghash_feed_c_plain.Statement.
 use Rattle.rvghash.proofs.running_calls.rvghash_feed_c_plain.Code as code
 
 abbrev said : Says
-said key s piece number t _ = Feeds (feedCRefusal key (view s) piece) (afterFeedC key (view s) piece) s number t
+said key s piece number t _ = FeedsC key s piece number t
 
 pub rvghash-feed-c-plain-spec : {M : Type 1} → statement M
 unfolding code.routine

@@ -1,9 +1,7 @@
 -- `rvghash_finish` meets its contract, by the walk of `Lent.antt`: it hands the lent running hash to `finished_into_fast`.
 -- Assumes nothing.
-use mathlib.Core.Path.{_≡_}
 use mir.Syntax.{mut}
-use Rattle.running.specs.State.{view, Feeds}
-use Rattle.rvghash.specs.Out.{finishNumber, finishState, finishOut}
+use Rattle.rvghash.specs.Lent.{FinishesInto}
 use Rattle.rvghash.proofs.running_calls.finished_into_fast.Symbol.{name as #g, routine}
 use Rattle.rvghash.proofs.running_calls.finished_into_fast.Met.{met}
 use Rattle.rvghash.proofs.Lent.{Says, lent-meets}
@@ -12,8 +10,7 @@ use Rattle.rvghash.proofs.running_calls.rvghash_finish.Statement.{state
 use Rattle.rvghash.proofs.running_calls.rvghash_finish.Code as code
 
 abbrev said : Says
-said key s out number t out′ =
-    Feeds (finishNumber key (view s) out) (finishState key (view s) out) s number t × (out′ ≡ finishOut key (view s) out)
+said key s out number t out′ = FinishesInto key s out number t out′
 
 pub rvghash-finish-spec : {M : Type 1} → statement M
 unfolding code.routine
