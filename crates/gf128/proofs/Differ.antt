@@ -1,18 +1,18 @@
 -- One changed block always shows: under one key that is not zero, two lists of blocks that differ at exactly one place have different
 -- partial hashes (`one-changed-block`), and two messages with equal lengths whose blocks do so have different hashes (`one-changed-ghash`).
 -- Assumes nothing.
-use mathlib.Core.Path.{_≡_, refl, sym, ap, ap₂, _∙_, subst}
+use mathlib.Core.Path.{_≡_, sym, ap, ap₂, _∙_}
 use mathlib.Core.Logic.{_≢_}
 use mathlib.Core.List.{List, [], _∷_, _++_, append-assoc}
 use Prim.Native.Nat.{ℕ, zero, suc, _+_, _*_, _/_, _^_, _<_}
-use native.Mathlib.Nat.{suc-inj, suc-ne-zero, suc-mul, le-of-suc-le-suc, not-suc-le-zero}
-use lib.Arith.{digits-lt}
-use lib.Pow.{pow-pos, pow-add}
+use native.Mathlib.Nat.{suc-inj, suc-ne-zero, le-of-suc-le-suc, not-suc-le-zero}
+use lib.Pow.{pow-pos}
 use lib.ListN.{length, getD}
 use lib.Seq.{ext-getD}
-use Rattle.gf128.specs.Bytes.{beAt}
 use Rattle.gf128.specs.Differ.{DifferOnce}
 use Rattle.gf128.specs.Hash.{next, over, blocksFrom, blocksOf, lengthBlock, messageOf, ghash}
+use Rattle.gf128.proofs.Bytes.{beAt-lt}
+use Rattle.gf128.proofs.Hash.{over-append}
 use Rattle.gf128.proofs.Solve.{next-lt, next-cancel, next-cancel-block}
 
 -- ---- lists of blocks
@@ -46,23 +46,11 @@ module _ (h : ℕ) (hh : h < 2 ^ 128) (h0 : h ≢ 0) where
 
 -- ---- the blocks of a list of bytes
 
-pub over-append : (h y : ℕ) (xs ys : List ℕ) → over h y (xs ++ ys) ≡ over h (over h y xs) ys
-unfolding over
-over-append h y [] ys = refl
-over-append h y (x ∷ xs) ys = over-append h (next h y x) xs ys
-
 module _ (s : List ℕ) (bytes : (i : ℕ) → getD s i 0 < 256) where
-  pub beAt-lt : (at n : ℕ) → beAt s at n < 2 ^ (n * 8)
-  unfolding beAt
-  beAt-lt at zero = pow-pos 0
-  beAt-lt at (suc n) =
-      subst (λ (x : ℕ). beAt s at n * 256 + getD s (at + n) 0 < x) (sym (ap (λ (x : ℕ). 2 ^ x) (suc-mul n 8) ∙ pow-add 2 (n * 8) 8))
-      (digits-lt (beAt-lt at n) (bytes (at + n)))
-
   blocksFrom-lt : (i n k : ℕ) → getD (blocksFrom s i n) k 0 < 2 ^ 128
   unfolding blocksFrom
   blocksFrom-lt i zero k = pow-pos 128
-  blocksFrom-lt i (suc n) zero = beAt-lt (16 * i) 16
+  blocksFrom-lt i (suc n) zero = beAt-lt s bytes (16 * i) 16
   blocksFrom-lt i (suc n) (suc k) = blocksFrom-lt (i + 1) n k
 
   pub blocksOf-lt : (k : ℕ) → getD (blocksOf s) k 0 < 2 ^ 128

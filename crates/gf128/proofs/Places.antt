@@ -1,20 +1,17 @@
 -- Places of a block: bounds, and what xor and times x do to coefficients, sums and products.
--- Main results for readers, at GHASH's numbers: `timesX-place`, `timesX-place-0` (document 01's step of V) and `coefficient-byte`
--- (coefficient k is bit 7 - k mod 8 of byte k div 8). The laws over any last place m and constant R stand first.
+-- Main results for readers, at GHASH's numbers: `timesX-place`, `timesX-place-0` (document 01's step of V). The laws over any last
+-- place m and constant R stand first.
 -- Assumes nothing.
 use mathlib.Core.Path.{_≡_, refl, sym, ap, ap₂, _∙_, subst}
 use mathlib.Core.Bool.{Bool, true, false, cond, _&&_, _||_}
-use mathlib.Core.List.{List}
 use mathlib.Core.Logic.{⊎-elim}
-use Prim.Native.Nat.{ℕ, zero, suc, _+_, _-_, _*_, _/_, _%_, _^_, _<_, _≤_}
-use native.Mathlib.Nat.{zero-add, zero-mul, one-mul, mul-zero, zero-div, div-one, mod-lt, zero-lt-suc, lt-of-le-of-lt, div-le-self, add-zero, add-suc, sub-self, sub-zero, div-eq-of-lt, eq-or-lt-of-le, mul-assoc, mul-add-div-right, le-of-suc-le-suc, not-suc-le-zero}
+use Prim.Native.Nat.{ℕ, zero, suc, _+_, _-_, _*_, _/_, _%_, _^_, _<_}
+use native.Mathlib.Nat.{zero-mul, one-mul, mul-zero, zero-div, div-one, mod-lt, zero-lt-suc, lt-of-le-of-lt, div-le-self, add-zero, add-suc, sub-self, sub-zero, div-eq-of-lt, eq-or-lt-of-le, le-of-suc-le-suc, not-suc-le-zero}
 use native.Mathlib.Numerals.{add-one}
 use native.Mathlib.Omega.{arith}
-use lib.Bits.{bitXor, xor-lt, xor-shr, xor-zero-r, xor-self, block-odd}
-use lib.Pow.{pow-pos, pow-add, shr-shr, shr-lt, high}
+use lib.Bits.{bitXor, xor-lt, xor-shr, xor-zero-r, xor-self}
+use lib.Pow.{pow-pos, shr-shr, shr-lt}
 use lib.Dec.{T, eqb, eqb→eq, lit<}
-use lib.ListN.{getD}
-use Rattle.gf128.specs.Bytes.{beAt, blockAt}
 use Rattle.gf128.specs.Field.{coeffOf, timesXOf, shiftedOf, sumOf, productOf, coefficient, timesX, reduction}
 use Rattle.gf128.proofs.Xor.{xor-odd, xor-half, xor-swap4}
 
@@ -283,45 +280,3 @@ timesX-place v k h =
 -- place 0 gets 0 and is flipped likewise
 pub timesX-place-0 : (v : ℕ) → v < 2 ^ 128 → coefficient (timesX v) 0 ≡ coefficient v 127 * flips 0
 timesX-place-0 v hv = timesXOf-place-0 127 reduction v hv ∙ ap (λ (x : ℕ). coefficient v 127 * x) (reduction-place 0 (lit< tt))
-
--- ---- bytes
-
--- a digit below w does not see what stands from w on
-low-digit : (x b d w : ℕ) → d < w → (x * 2 ^ w + b) / 2 ^ d % 2 ≡ b / 2 ^ d % 2
-low-digit x b d w h =
-    let e : w ≡ suc (w - suc d) + d = omega arith in
-    ap (λ (n : ℕ). (n + b) / 2 ^ d % 2)
-    (ap (λ (n : ℕ). x * 2 ^ n) e ∙ ap (λ (n : ℕ). x * n) (pow-add 2 (suc (w - suc d)) d) ∙ sym (mul-assoc x (2 ^ suc (w - suc d)) (2 ^ d)))
-    ∙ ap (λ (n : ℕ). n % 2) (mul-add-div-right (pow-pos d) (x * 2 ^ suc (w - suc d)) b)
-    ∙ block-odd x (w - suc d) (b / 2 ^ d)
-
-module _ (s : List ℕ) (bytes : (i : ℕ) → getD s i 0 < 256) (at : ℕ) where
-  beAt-digit : (n k d : ℕ) → k + d + 1 ≡ 8 * n → beAt s at n / 2 ^ d % 2 ≡ getD s (at + k / 8) 0 / 2 ^ (7 - k % 8) % 2
-  unfolding beAt
-  beAt-digit zero k d e = absurd (omega arith)
-  beAt-digit (suc n) k d e =
-      let le : k / 8 ≤ n = omega arith in
-      ⊎-elim
-      (λ (h : k / 8 ≡ n).
-      let d7 : d ≡ 7 - k % 8 = omega arith in
-      low-digit (beAt s at n) (getD s (at + n) 0) d 8 (omega arith)
-      ∙ ap₂ (λ (i j : ℕ). getD s (at + i) 0 / 2 ^ j % 2) (sym h) d7)
-      (λ (h : k / 8 < n).
-      let d8 : d ≡ 8 + (d - 8) = omega arith in
-      ap (λ (x : ℕ). x % 2)
-      (ap (λ (x : ℕ). (beAt s at n * 256 + getD s (at + n) 0) / 2 ^ x) d8
-      ∙ sym (shr-shr (beAt s at n * 256 + getD s (at + n) 0) 8 (d - 8))
-      ∙ ap (λ (x : ℕ). x / 2 ^ (d - 8)) (high (beAt s at n) 8 (bytes (at + n))))
-      ∙ beAt-digit n k (d - 8) (omega arith))
-      (eq-or-lt-of-le le)
-
-  -- coefficient k of n bytes is bit 7 - k mod 8 of byte k div 8
-  pub coeffOf-byte : (m n k : ℕ) → suc m ≡ 8 * n → k ≤ m → coeffOf m (beAt s at n) k ≡ getD s (at + k / 8) 0 / 2 ^ (7 - k % 8) % 2
-  unfolding coeffOf
-  coeffOf-byte m n k e h = beAt-digit n k (m - k) (omega arith)
-
--- document 01: coefficient k of a block is bit 7 - k mod 8 of byte k div 8
-pub coefficient-byte : (s : List ℕ) → ((i : ℕ) → getD s i 0 < 256) → (k : ℕ) → k < 128
-    → coefficient (blockAt s 0) k ≡ getD s (k / 8) 0 / 2 ^ (7 - k % 8) % 2
-coefficient-byte s bytes k h =
-    coeffOf-byte s bytes 0 127 16 k refl (omega arith) ∙ ap (λ (i : ℕ). getD s i 0 / 2 ^ (7 - k % 8) % 2) (zero-add (k / 8))

@@ -11,7 +11,8 @@ use Rattle.gf128.specs.Bytes.{blockAt}
 use Rattle.gf128.specs.Entries.{hashBlock}
 use Rattle.gf128.specs.Hash.{ghash, limit}
 use Rattle.gf128.specs.Pieces.{joined}
-use Rattle.gf128.proofs.Differ.{beAt-lt, one-changed-ghash}
+use Rattle.gf128.proofs.Bytes.{beAt-lt}
+use Rattle.gf128.proofs.Differ.{one-changed-ghash}
 use Rattle.gf128.proofs.Running.{as-whole}
 use Rattle.theorems.specs.Changed.{AreBytes, NonzeroKey, IsMessage, OneChangedBlockShows, OneChangedBlockShowsInParts}
 
