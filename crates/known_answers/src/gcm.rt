@@ -2,46 +2,9 @@
 ghost use Prim.Native.Nat.{_≤_, _<_};
 ghost use lib.ListN.{length};
 use crate::pieces::Mix;
-use crate::pieces::in_pieces;
 use crate::tally::Tally;
-use crate::tally::answers_at;
-use ghash::ghash_fast;
-use ghash::ghash_plain;
-
-struct Tallies {
-    plain: Tally,
-    fast: Tally,
-    pieces: Tally,
-}
-
-// A message cut in four ways, each path alone and by turns. The head has the key and the hash.
-fn in_all_pieces(t: Tally, head: &[u8], a: &[u8], c: &[u8]) -> Tally {
-    if head.len() < 32 {
-        return t;
-    }
-    let key = &head[0..16];
-    let ones = answers_at(in_pieces(Mix::Plain, 1, key, a, c), head, 16);
-    let sevens = answers_at(in_pieces(Mix::Fast, 7, key, a, c), head, 16);
-    let blocks = answers_at(in_pieces(Mix::Turns, 16, key, a, c), head, 16);
-    let others = answers_at(in_pieces(Mix::Turns, 23, key, a, c), head, 16);
-    t.with(ones).with(sevens).with(blocks).with(others)
-}
-
-// A message whole, on both paths, and in pieces.
-fn message(t: Tallies, head: &[u8], a: &[u8], c: &[u8]) -> Tallies {
-    if head.len() < 32 {
-        return t;
-    }
-    let key = &head[0..16];
-    let plain = t.plain;
-    let fast = t.fast;
-    let pieces = t.pieces;
-    Tallies {
-        plain: plain.with(answers_at(ghash_plain(key, a, c), head, 16)),
-        fast: fast.with(answers_at(ghash_fast(key, a, c), head, 16)),
-        pieces: in_all_pieces(pieces, head, a, c),
-    }
-}
+use crate::way::Way;
+use crate::way::agrees;
 
 fn wide(b: u8) -> usize
     ensures { λ r. ⌜ r < 256 ⌝ }
@@ -76,55 +39,53 @@ fn record_bytes(s: &[u8]) -> usize
 }
 
 // One whole record.
-fn record(t: Tallies, s: &[u8]) -> Tallies {
-    if s.len() < 36 {
-        return t;
-    }
+fn record(way: Way, s: &[u8]) -> bool {
     let a_end = 36 + length_at(s, 32);
     if s.len() < a_end {
-        return t;
+        return false;
     }
-    message(t, &s[0..32], &s[36..a_end], &s[a_end..])
+    agrees(way, s, &s[36..a_end], &s[a_end..])
 }
 
 // All whole records of s.
-fn records(s: &[u8]) -> Tallies {
-    let none = Tally::new();
-    let mut t = Tallies {
-        plain: none,
-        fast: none,
-        pieces: none,
-    };
+fn records(way: Way, s: &[u8]) -> Tally {
+    let mut t = Tally::new();
     let mut at: usize = 0;
     while at < s.len() {
         let next = at + record_bytes(&s[at..]);
         if next <= at {
             return t;
         }
-        t = record(t, &s[at..next]);
+        t = t.with(record(way, &s[at..next]));
         at = next;
     }
     t
 }
 
-fn report(t: Tallies) {
-    let plain = t.plain;
-    let fast = t.fast;
-    let pieces = t.pieces;
-    plain.report(b"NIST GCM vectors, whole, plain path");
-    fast.report(b"NIST GCM vectors, whole, fast path");
-    pieces.report(b"NIST GCM vectors, in pieces, plain, fast and by turns");
+fn plain(s: &[u8]) {
+    records(Way::Plain, s).report(b"NIST GCM vectors, whole, plain path");
+}
+
+fn fast(s: &[u8]) {
+    records(Way::Fast, s).report(b"NIST GCM vectors, whole, fast path");
+}
+
+fn pieces(s: &[u8]) {
+    records(Way::Pieces(Mix::Plain, 1), s)
+        .plus(records(Way::Pieces(Mix::Fast, 7), s))
+        .plus(records(Way::Pieces(Mix::Turns, 16), s))
+        .plus(records(Way::Pieces(Mix::Turns, 23), s))
+        .report(b"NIST GCM vectors, in pieces, plain, fast and by turns");
+}
+
+fn all(s: &[u8]) {
+    plain(s);
+    fast(s);
+    pieces(s);
 }
 
 pub fn run() {
-    let path = b"gcm.bin";
-    let fd = os::open_read(path);
-    if fd < 0 {
-        os::fail(path);
-        return;
-    }
     let mut buffer = io::large_buffer();
-    let n = io::read_full(fd, &mut buffer);
-    libc::close(fd);
-    report(records(&buffer[..n]));
+    let n = crate::data_file::read(b"gcm.bin", &mut buffer);
+    all(&buffer[..n]);
 }

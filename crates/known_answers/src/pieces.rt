@@ -20,52 +20,35 @@ pub enum Mix {
 }
 
 // The part of a message that a piece belongs to.
-enum Part {
+pub enum Part {
     A,
     C,
-}
-
-fn by_turns(turn: usize) -> Path {
-    if turn % 2 == 0 {
-        Path::Fast
-    } else {
-        Path::Plain
-    }
 }
 
 fn path_of(mix: Mix, turn: usize) -> Path {
     match mix {
         Mix::Plain => Path::Plain,
         Mix::Fast => Path::Fast,
-        Mix::Turns => by_turns(turn),
+        Mix::Turns => {
+            if turn % 2 == 0 {
+                Path::Fast
+            } else {
+                Path::Plain
+            }
+        }
     }
 }
 
-fn fed_a(path: Path, state: Running, key: &[u8], piece: &[u8]) -> Fed {
-    match path {
-        Path::Plain => fed_a_plain(state, key, piece),
-        Path::Fast => fed_a_fast(state, key, piece),
-    }
-}
-
-fn fed_c(path: Path, state: Running, key: &[u8], piece: &[u8]) -> Fed {
-    match path {
-        Path::Plain => fed_c_plain(state, key, piece),
-        Path::Fast => fed_c_fast(state, key, piece),
-    }
-}
-
-fn fed(part: Part, path: Path, state: Running, key: &[u8], piece: &[u8]) -> Fed {
+pub fn fed(part: Part, path: Path, state: Running, key: &[u8], piece: &[u8]) -> Fed {
     match part {
-        Part::A => fed_a(path, state, key, piece),
-        Part::C => fed_c(path, state, key, piece),
-    }
-}
-
-fn finished(path: Path, state: Running, key: &[u8]) -> Finished {
-    match path {
-        Path::Plain => finished_plain(state, key),
-        Path::Fast => finished_fast(state, key),
+        Part::A => match path {
+            Path::Plain => fed_a_plain(state, key, piece),
+            Path::Fast => fed_a_fast(state, key, piece),
+        },
+        Part::C => match path {
+            Path::Plain => fed_c_plain(state, key, piece),
+            Path::Fast => fed_c_fast(state, key, piece),
+        },
     }
 }
 
@@ -76,11 +59,14 @@ fn after(part: Part, path: Path, state: Running, key: &[u8], piece: &[u8]) -> Ru
     s
 }
 
-// Where the piece that starts at `at` ends.
+// Where the piece that starts at `at` ends. A size of 0 takes all that is left.
 fn piece_end(at: usize, size: usize, len: usize) -> usize
-    requires { ⌜ (at < len) × (0 < size) ⌝ }
+    requires { ⌜ at < len ⌝ }
     ensures { λ r. ⌜ (at < r) × (r ≤ len) ⌝ }
 {
+    if size == 0 {
+        return len;
+    }
     if size < len - at {
         return at + size;
     }
@@ -88,9 +74,7 @@ fn piece_end(at: usize, size: usize, len: usize) -> usize
 }
 
 // The running hash after all of s, in pieces of `size` bytes.
-fn feed(mix: Mix, size: usize, part: Part, state: Running, key: &[u8], s: &[u8]) -> Running
-    requires { ⌜ 0 < size ⌝ }
-{
+fn feed(part: Part, mix: Mix, size: usize, state: Running, key: &[u8], s: &[u8]) -> Running {
     let mut running = state;
     let mut at: usize = 0;
     while at < s.len() {
@@ -101,18 +85,30 @@ fn feed(mix: Mix, size: usize, part: Part, state: Running, key: &[u8], s: &[u8])
     running
 }
 
-// The hash of a message in pieces of `size` bytes, an empty piece of A first.
-pub fn in_pieces(mix: Mix, size: usize, key: &[u8], a: &[u8], c: &[u8]) -> Answer
-    requires { ⌜ 0 < size ⌝ }
-{
+// A running hash that was fed an empty piece of A.
+fn begun(key: &[u8]) -> Running {
     let none = [0u8; 0];
-    let fresh = after(Part::A, Path::Plain, Running::new(), key, &none);
-    let after_a = feed(mix, size, Part::A, fresh, key, a);
-    let after_c = feed(mix, size, Part::C, after_a, key, c);
-    let f = finished(path_of(mix, size), after_c, key);
+    after(Part::A, Path::Plain, Running::new(), key, &none)
+}
+
+fn answer_of(f: Finished) -> Answer {
     let block = f.block;
     Answer {
         number: f.number,
         block,
     }
+}
+
+fn finished(path: Path, state: Running, key: &[u8]) -> Answer {
+    match path {
+        Path::Plain => answer_of(finished_plain(state, key)),
+        Path::Fast => answer_of(finished_fast(state, key)),
+    }
+}
+
+// The hash of a message in pieces of `size` bytes, an empty piece of A first.
+pub fn in_pieces(mix: Mix, size: usize, key: &[u8], a: &[u8], c: &[u8]) -> Answer {
+    let after_a = feed(Part::A, mix, size, begun(key), key, a);
+    let after_c = feed(Part::C, mix, size, after_a, key, c);
+    finished(path_of(mix, size), after_c, key)
 }

@@ -1,8 +1,6 @@
 // How many cases were tried, and how many agree.
-use field::block::Block;
-use field::block::block_at;
-use field::product::Answer;
 use libc::STDOUT_FILENO;
+use std::num::wrapping_add_u64;
 
 pub struct Tally {
     pub tried: u64,
@@ -17,44 +15,38 @@ impl Tally {
         }
     }
 
-    pub fn with(self, ok: bool) -> Tally {
-        let tried = std::num::wrapping_add_u64(self.tried, 1);
-        let agreed = self.agreed;
-        if ok {
-            return Tally {
-                tried,
-                agreed: std::num::wrapping_add_u64(agreed, 1),
-            };
+    pub fn plus(self, other: Tally) -> Tally {
+        Tally {
+            tried: wrapping_add_u64(self.tried, other.tried),
+            agreed: wrapping_add_u64(self.agreed, other.agreed),
         }
-        Tally { tried, agreed }
     }
 
-    pub fn report(self, name: &[u8]) {
-        io::write_all(STDOUT_FILENO, name);
+    // One case more.
+    pub fn with(self, ok: bool) -> Tally {
+        if ok {
+            return self.plus(Tally {
+                tried: 1,
+                agreed: 1,
+            });
+        }
+        self.plus(Tally {
+            tried: 1,
+            agreed: 0,
+        })
+    }
+
+    // Ends a line that has the name of the group.
+    pub fn end_line(self) {
         io::write_all(STDOUT_FILENO, b": ");
         io::print_decimal(STDOUT_FILENO, self.agreed);
         io::write_all(STDOUT_FILENO, b" of ");
         io::print_decimal(STDOUT_FILENO, self.tried);
         io::write_all(STDOUT_FILENO, b" agree\n");
     }
-}
 
-pub fn same(a: Block, b: Block) -> bool {
-    if a.0 == b.0 {
-        return a.1 == b.1;
+    pub fn report(self, name: &[u8]) {
+        io::write_all(STDOUT_FILENO, name);
+        self.end_line();
     }
-    false
-}
-
-// The answer is this number with this block.
-pub fn answers(a: Answer, number: u32, block: Block) -> bool {
-    if a.number == number {
-        return same(a.block, block);
-    }
-    false
-}
-
-// The answer is done with the block that stands in the bytes from `at` on.
-pub fn answers_at(a: Answer, s: &[u8], at: usize) -> bool {
-    answers(a, 0, block_at(s, at))
 }

@@ -7,10 +7,10 @@ use Rattle.known_answers.proofs.gcm.records.Statement.{statement}
 use Rattle.known_answers.proofs.gcm.records.Tie as tie
 
 abbrev Inv-loop : tie.InvT-loop
-Inv-loop s t₀ at₀ t at = at ≤ length s
+Inv-loop way s t₀ at₀ t at = at ≤ length s
 
 abbrev μ-loop : tie.MeasureT-loop
-μ-loop s t₀ at₀ t at = length s - at
+μ-loop way s t₀ at₀ t at = length s - at
 
 new-requires : tie.Need-new-requires Inv-loop μ-loop
 new-requires c κs = search needs
@@ -48,6 +48,9 @@ part-record-end c = search needs
 record-requires : tie.Need-record-requires Inv-loop μ-loop
 record-requires c κs = search needs
 
+with-requires : tie.Need-with-requires Inv-loop μ-loop
+with-requires c κs = search needs
+
 loop-less : tie.Need-loop-less Inv-loop μ-loop
 loop-less c = search needs
 
@@ -75,6 +78,7 @@ records-spec =
     part-record-start
     part-record-end
     record-requires
+    with-requires
     loop-less
     loop-again
     returns-2)

@@ -4,14 +4,14 @@ use Prim.Native.Nat.{_≤_, _-_}
 use native.Mathlib.Omega.{arith}
 use lib.ListN.{length, length-set}
 use borrow.Author.Needs.{needs}
-use Rattle.known_answers.proofs.limits.fill.Statement.{statement}
-use Rattle.known_answers.proofs.limits.fill.Tie as tie
+use Rattle.known_answers.proofs.pattern.fill.Statement.{statement}
+use Rattle.known_answers.proofs.pattern.fill.Tie as tie
 
 abbrev Inv-loop : tie.InvT-loop
-Inv-loop s₀ first step modulus b₀ i₀ s b i = (i ≤ length s) × (length s ≡ length s₀)
+Inv-loop p s₀ b₀ i₀ s b i = (i ≤ length s) × (length s ≡ length s₀)
 
 abbrev μ-loop : tie.MeasureT-loop
-μ-loop s₀ first step modulus b₀ i₀ s b i = length s - i
+μ-loop p s₀ b₀ i₀ s b i = length s - i
 
 loop-holds : tie.Need-loop-holds Inv-loop μ-loop
 loop-holds c = search needs
