@@ -107,6 +107,17 @@ fn load_padded(s: &[u8], at: usize) -> u64
     v
 }
 
+// As `load_padded`, by one load where all 8 bytes are there.
+fn half_at(s: &[u8], at: usize) -> u64
+    requires { ⌜ at + 8 < 2 ^ 64 ⌝ }
+    ensures { λ r. ⌜ r ≡ beAt (now (s .entry)) at 8 ⌝ }
+{
+    if at + 8 <= s.len() {
+        return load(s, at);
+    }
+    load_padded(s, at)
+}
+
 // The block in the 16 bytes from `at` on. Bytes past the end count as zeros, which is how A and C are padded.
 pub fn block_at(s: &[u8], at: usize) -> Block
     ensures { λ r. ⌜ valueOf r ≡ blockAt (now (s .entry)) at ⌝ }
@@ -114,12 +125,7 @@ pub fn block_at(s: &[u8], at: usize) -> Block
     if s.len() <= at {
         return Block::ZERO;
     }
-    if 16 <= s.len() - at {
-        return Block(load(s, at), load(s, at + 8));
-    }
-    // The low half first: else the compiler shares a byte's load with the branch above, and there it swaps no whole half.
-    let low = load_padded(s, at + 8);
-    Block(load_padded(s, at), low)
+    Block(half_at(s, at), half_at(s, at + 8))
 }
 
 // The key in the 16 bytes from place 0 on, read as a block is.
