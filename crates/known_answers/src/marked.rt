@@ -7,14 +7,14 @@ use crate::registers::decodes;
 use crate::tally::Tally;
 use crate::way::Way;
 use crate::way::hash;
-use word::Fields;
-use word::Kind;
 use fast::product_fast_bytes;
 use field::block::Block;
 use field::block::put_block;
 use field::product::product_plain_bytes;
 use inverse::step_back::step_back_bytes;
 use libc::STDOUT_FILENO;
+use word::Fields;
+use word::Kind;
 
 // 40…, which is x, and …01, which is x^127.
 const X: Block = Block(0x4000_0000_0000_0000, 0);

@@ -1,12 +1,12 @@
 // Words decoded, and done on a register file of VLEN 128.
 use crate::compare::same_bytes;
 use decoder::settings::Settings;
+use element::element::write_le;
+use vector::execute::execute;
 use word::Fields;
 use word::Kind;
 use word::Word;
 use word::decode;
-use element::element::write_le;
-use vector::execute::execute;
 
 // The two low bytes of v1, v2 and v3.
 fn put(file: &mut [u8; 512], v1: u64, v2: u64, v3: u64) {
