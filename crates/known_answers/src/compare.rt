@@ -1,38 +1,58 @@
-// Answers and bytes compared with what they should be.
+// Answers compared with what they should be, and the ways to hash a message.
+ghost use mathlib.Core.Path.{_≡_};
+ghost use lib.ListN.{length};
+use crate::pieces::Mix;
+use crate::pieces::in_pieces;
+use crate::tally::count;
 use field::block::Block;
-use field::block::block_at;
+use field::block::put_block;
 use field::product::Answer;
+use ghash::ghash_fast;
+use ghash::ghash_plain;
 
-fn same(a: Block, b: Block) -> bool {
-    if a.0 == b.0 {
-        return a.1 == b.1;
-    }
-    false
+// Whole on either path, or in pieces of some bytes.
+pub enum Way {
+    Plain,
+    Fast,
+    Pieces(Mix, usize),
 }
 
-// The answer is this number with this block.
-pub fn answers(a: Answer, number: u32, block: Block) -> bool {
-    if a.number == number {
-        return same(a.block, block);
+fn hash(way: Way, key: &[u8], a: &[u8], c: &[u8]) -> Answer {
+    match way {
+        Way::Plain => ghash_plain(key, a, c),
+        Way::Fast => ghash_fast(key, a, c),
+        Way::Pieces(mix, size) => in_pieces(mix, size, key, a, c),
     }
-    false
 }
 
-// The answer is done with the block that stands in the bytes from `at` on.
-pub fn answers_at(a: Answer, s: &[u8], at: usize) -> bool {
-    answers(a, 0, block_at(s, at))
+// The 16 bytes of a block.
+pub fn bytes(b: Block) -> [u8; 16]
+    ensures { λ r. ⌜ 16 ≡ length r ⌝ }
+{
+    let mut s = [0u8; 16];
+    put_block(&mut s, 0, b);
+    s
 }
 
-pub fn same_bytes(a: &[u8], b: &[u8]) -> bool {
-    if a.len() != b.len() {
-        return false;
-    }
-    let mut i: usize = 0;
-    while i < a.len() {
-        if a[i] != b[i] {
-            return false;
-        }
-        i += 1;
-    }
-    true
+// Counts the answer if it is this number with this block.
+pub fn answer(agreed: u64, a: Answer, number: u32, block: Block) -> u64 {
+    let b = a.block;
+    count(
+        agreed,
+        (a.number == number) & (b.0 == block.0) & (b.1 == block.1),
+    )
+}
+
+// The same of the answer for a message under the key H.
+pub fn hash_answer(
+    agreed: u64,
+    way: Way,
+    h: Block,
+    a: &[u8],
+    c: &[u8],
+    number: u32,
+    block: Block,
+) -> u64 {
+    let key = bytes(h);
+    answer(agreed, hash(way, &key, a, c), number, block)
 }

@@ -1,81 +1,73 @@
 // NIST's published GCM vectors, as records of H, the GHASH value, the lengths of A and C, A and C (data/gcm.bin).
 ghost use Prim.Native.Nat.{_≤_, _<_};
 ghost use lib.ListN.{length};
+use crate::compare::Way;
+use crate::compare::hash_answer;
+use crate::data_file::read;
 use crate::pieces::Mix;
-use crate::tally::Tally;
-use crate::way::Way;
-use crate::way::agrees;
+use crate::tally::report;
+use element::element::read_le;
+use field::block::block_at;
 
-fn wide(b: u8) -> usize
-    ensures { λ r. ⌜ r < 256 ⌝ }
+// The records that agree so far, and where the next one starts.
+struct Place {
+    agreed: u64,
+    at: usize,
+}
+
+fn least(a: usize, b: usize) -> usize
+    ensures { λ r. ⌜ r ≤ b ⌝ }
 {
-    b as usize
+    if a < b { a } else { b }
 }
 
-// The 16-bit number, low byte first, from `at` on.
-fn length_at(s: &[u8], at: usize) -> usize
-    ensures { λ r. ⌜ r < 65536 ⌝ }
+// The record that s starts with. One that is cut short has another hash.
+fn record(agreed: u64, way: Way, s: &[u8]) -> Place
+    requires { ⌜ 36 ≤ length (now s) ⌝ }
+    ensures { λ r. ⌜ (0 < r .at) × (r .at ≤ length (now (s .entry))) ⌝ }
 {
-    if at < s.len() {
-        if 1 < s.len() - at {
-            return wide(s[at]) + wide(s[at + 1]) * 256;
-        }
+    let a_end = 36 + least(read_le(s, 32, 2) as usize, s.len() - 36);
+    let end = a_end + least(read_le(s, 34, 2) as usize, s.len() - a_end);
+    let a = &s[36..a_end];
+    let c = &s[a_end..end];
+    Place {
+        agreed: hash_answer(agreed, way, block_at(s, 0), a, c, 0, block_at(s, 16)),
+        at: end,
     }
-    0
 }
 
-// The bytes of the record that s starts with; 0 where it has no whole one.
-fn record_bytes(s: &[u8]) -> usize
-    ensures { λ r. ⌜ r ≤ length (now (s .entry)) ⌝ }
-{
-    if s.len() < 36 {
-        return 0;
-    }
-    let bytes = 36 + length_at(s, 32) + length_at(s, 34);
-    if s.len() < bytes {
-        return 0;
-    }
-    bytes
-}
-
-// One whole record.
-fn record(way: Way, s: &[u8]) -> bool {
-    let a_end = 36 + length_at(s, 32);
-    if s.len() < a_end {
-        return false;
-    }
-    agrees(way, s, &s[36..a_end], &s[a_end..])
-}
-
-// All whole records of s.
-fn records(way: Way, s: &[u8]) -> Tally {
-    let mut t = Tally::new();
+// All records of s.
+fn records(agreed: u64, way: Way, s: &[u8]) -> u64 {
+    let mut n = agreed;
     let mut at: usize = 0;
-    while at < s.len() {
-        let next = at + record_bytes(&s[at..]);
-        if next <= at {
-            return t;
-        }
-        t = t.with(record(way, &s[at..next]));
-        at = next;
+    while 36 <= s.len() - at {
+        let p = record(n, way, &s[at..]);
+        n = p.agreed;
+        at += p.at;
     }
-    t
+    n
 }
 
 fn plain(s: &[u8]) {
-    records(Way::Plain, s).report(b"NIST GCM vectors, whole, plain path");
+    let n = records(0, Way::Plain, s);
+    report(b"NIST GCM vectors, whole, plain path", n, 450);
 }
 
 fn fast(s: &[u8]) {
-    records(Way::Fast, s).report(b"NIST GCM vectors, whole, fast path");
+    let n = records(0, Way::Fast, s);
+    report(b"NIST GCM vectors, whole, fast path", n, 450);
 }
 
 fn pieces(s: &[u8]) {
-    records(Way::Pieces(Mix::Plain, 1), s)
-        .plus(records(Way::Pieces(Mix::Fast, 7), s))
-        .plus(records(Way::Pieces(Mix::Turns, 16), s))
-        .plus(records(Way::Pieces(Mix::Turns, 23), s))
-        .report(b"NIST GCM vectors, in pieces, plain, fast and by turns");
+    let mut n = records(0, Way::Pieces(Mix::Plain, 1), s);
+    n = records(n, Way::Pieces(Mix::Fast, 7), s);
+    n = records(n, Way::Pieces(Mix::Turns, 16), s);
+    n = records(n, Way::Pieces(Mix::Turns, 23), s);
+    report(
+        b"NIST GCM vectors, in pieces, plain, fast and by turns",
+        n,
+        1800,
+    );
 }
 
 fn all(s: &[u8]) {
@@ -86,6 +78,6 @@ fn all(s: &[u8]) {
 
 pub fn run() {
     let mut buffer = io::large_buffer();
-    let n = crate::data_file::read(b"gcm.bin", &mut buffer);
+    let n = read(b"gcm.bin", &mut buffer);
     all(&buffer[..n]);
 }

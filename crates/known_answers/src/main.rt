@@ -2,19 +2,17 @@
 // Each group writes one line with how many cases agree. A line with fewer than were tried fails the gate.
 mod compare;
 mod data_file;
+mod executor;
 mod gcm;
 mod limits;
 mod marked;
 mod pattern;
 mod pieces;
-mod refusals;
-mod registers;
 mod tally;
-mod way;
 
 fn main() {
     marked::run();
-    refusals::run();
+    executor::run();
     gcm::run();
     limits::run();
 }

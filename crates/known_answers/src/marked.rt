@@ -1,84 +1,62 @@
 // Document 01's marked cases, K1 to K14.
-ghost use mathlib.Core.Path.{_≡_};
-ghost use lib.ListN.{length};
-use crate::compare::answers;
-use crate::registers::carryless_agrees;
-use crate::registers::decodes;
-use crate::tally::Tally;
-use crate::way::Way;
-use crate::way::hash;
+use crate::compare::Way;
+use crate::compare::answer;
+use crate::compare::hash_answer;
+use crate::executor::element_after;
+use crate::tally;
+use crate::tally::count;
 use fast::product_fast_bytes;
 use field::block::Block;
-use field::block::put_block;
 use field::product::product_plain_bytes;
 use inverse::step_back::step_back_bytes;
 use libc::STDOUT_FILENO;
-use word::Fields;
 use word::Kind;
-
-// 40…, which is x, and …01, which is x^127.
-const X: Block = Block(0x4000_0000_0000_0000, 0);
-
-const LAST: Block = Block(0, 1);
+use word::Word;
+use word::decode;
 
 // vclmul.vv v1, v2, v3 and vclmulh.vv v1, v2, v3.
 const VCLMUL: u32 = 0x3221A0D7;
 
 const VCLMULH: u32 = 0x3621A0D7;
 
-fn report(k: u64, t: Tally) {
+fn end_line(k: u64, agreed: u64, tried: u64) {
     io::write_all(STDOUT_FILENO, b"K");
     io::print_decimal(STDOUT_FILENO, k);
-    t.end_line();
+    tally::end_line(agreed, tried);
 }
 
-// The 16 bytes of a block.
-fn bytes(b: Block) -> [u8; 16]
-    ensures { λ r. ⌜ 16 ≡ length r ⌝ }
-{
-    let mut s = [0u8; 16];
-    put_block(&mut s, 0, b);
-    s
+// Elements a by b; with SEW 16 both bytes of each.
+fn carryless(k: u64, sew: u32, a: u8, b: u8, low: u64, high: u64) {
+    let n = count(0, element_after(VCLMUL, sew, a, b) == low);
+    end_line(k, count(n, element_after(VCLMULH, sew, a, b) == high), 2);
 }
 
-// Elements a by b, through both halves' words.
-fn carryless(k: u64, sew: u32, a: u64, b: u64, low: u64, high: u64) {
-    report(
-        k,
-        Tally::new()
-            .with(carryless_agrees(VCLMUL, sew, a, b, low))
-            .with(carryless_agrees(VCLMULH, sew, a, b, high)),
-    );
+fn products(k: u64, block: &[u8], key: &[u8], expected: Block) {
+    let n = answer(0, product_plain_bytes(key, block), 0, expected);
+    end_line(k, answer(n, product_fast_bytes(key, block), 0, expected), 2);
 }
 
-fn on_both_paths(key: &[u8], block: &[u8], expected: Block) -> Tally {
-    Tally::new()
-        .with(answers(product_plain_bytes(key, block), 0, expected))
-        .with(answers(product_fast_bytes(key, block), 0, expected))
+// U·H on both paths; U and H by their first and last byte, with zeros between.
+fn product(k: u64, u0: u8, u15: u8, h0: u8, h15: u8, high: u64, low: u64) {
+    let block = [u0, 0, 0, 0, 0, 0, 0, 0, 0, 0, 0, 0, 0, 0, 0, u15];
+    let key = [h0, 0, 0, 0, 0, 0, 0, 0, 0, 0, 0, 0, 0, 0, 0, h15];
+    products(k, &block, &key, Block(high, low));
 }
 
-// U·H on both paths.
-fn product(k: u64, u: Block, h: Block, expected: Block) {
-    let key = bytes(h);
-    let block = bytes(u);
-    report(k, on_both_paths(&key, &block, expected));
-}
-
-fn step_back(k: u64, h: Block, x: Block, later: Block, number: u32, earlier: Block) {
-    let key = bytes(h);
-    let block = bytes(x);
-    let hash = bytes(later);
-    let ok = answers(step_back_bytes(&key, &block, &hash), number, earlier);
-    report(k, Tally::new().with(ok));
+// The step back with X zero; H and Y1 by their first byte, with zeros after it.
+fn step_back(k: u64, h0: u8, y0: u8, number: u32, high: u64, low: u64) {
+    let key = [h0, 0, 0, 0, 0, 0, 0, 0, 0, 0, 0, 0, 0, 0, 0, 0];
+    let x = [0u8; 16];
+    let later = [y0, 0, 0, 0, 0, 0, 0, 0, 0, 0, 0, 0, 0, 0, 0, 0];
+    let a = step_back_bytes(&key, &x, &later);
+    end_line(k, answer(0, a, number, Block(high, low)), 1);
 }
 
 // The hash with A empty, on both paths.
-fn hash_of_c(k: u64, h: Block, c: &[u8], expected: Block) {
-    let key = bytes(h);
+fn hash(k: u64, h: Block, c: &[u8], expected: Block) {
     let none = [0u8; 0];
-    let plain = answers(hash(Way::Plain, &key, &none, c), 0, expected);
-    let fast = answers(hash(Way::Fast, &key, &none, c), 0, expected);
-    report(k, Tally::new().with(plain).with(fast));
+    let n = hash_answer(0, Way::Plain, h, &none, c, 0, expected);
+    end_line(k, hash_answer(n, Way::Fast, h, &none, c, 0, expected), 2);
 }
 
 fn elements() {
@@ -86,53 +64,46 @@ fn elements() {
     carryless(2, 8, 0xFF, 0xFF, 0x55, 0x55);
     carryless(3, 8, 0x80, 0x80, 0x00, 0x40);
     carryless(4, 8, 0x80, 0x02, 0x00, 0x01);
-    carryless(5, 16, 0xFFFF, 0xFFFF, 0x5555, 0x5555);
+    carryless(5, 16, 0xFF, 0xFF, 0x5555, 0x5555);
 }
 
-fn products() {
-    product(6, X, LAST, Block(0xE100_0000_0000_0000, 0));
-    product(7, LAST, LAST, Block(0xE608_0000_0000_0000, 3));
-    product(8, Block::ONE, LAST, LAST);
+fn field() {
+    product(6, 0x40, 0x00, 0x00, 0x01, 0xE100_0000_0000_0000, 0);
+    product(7, 0x00, 0x01, 0x00, 0x01, 0xE608_0000_0000_0000, 3);
+    product(8, 0x80, 0x00, 0x00, 0x01, 0, 1);
+    step_back(9, 0x40, 0x80, 0, 0xC200_0000_0000_0000, 1);
+    step_back(10, 0x00, 0x00, 13, 0, 0);
+    step_back(11, 0x00, 0x80, 12, 0, 0);
 }
 
-fn steps_back() {
-    step_back(
-        9,
-        X,
-        Block::ZERO,
-        Block::ONE,
-        0,
-        Block(0xC200_0000_0000_0000, 1),
-    );
-    step_back(10, Block::ZERO, Block::ZERO, Block::ZERO, 13, Block::ZERO);
-    step_back(11, Block::ZERO, Block::ZERO, Block::ONE, 12, Block::ZERO);
+// vghsh.vv with vd 4, vs2 8, vs1 12.
+fn is_k12(w: Word) -> bool {
+    if let Word::Known(k, f) = w {
+        if let Kind::VghshVv = k {
+            return (f.vm == 1) & (f.vd == 4) & (f.vs2 == 8) & (f.vs1 == 12);
+        }
+    }
+    false
 }
 
-// vghsh.vv v4, v8, v12.
 fn word() {
-    let fields = Fields {
-        vm: 1,
-        vs2: 8,
-        vs1: 12,
-        vd: 4,
-    };
-    report(
-        12,
-        Tally::new().with(decodes(0xB2862277, Kind::VghshVv, fields)),
-    );
+    end_line(12, count(0, is_k12(decode(0xB2862277))), 1);
 }
 
-fn hashes() {
+fn empty_message() {
     let none = [0u8; 0];
+    hash(13, Block(0x4000_0000_0000_0000, 0), &none, Block::ZERO);
+}
+
+fn message_of_a_byte() {
     let byte = [1u8];
-    hash_of_c(13, X, &none, Block::ZERO);
-    hash_of_c(14, Block::ONE, &byte, Block(0x0100_0000_0000_0000, 8));
+    hash(14, Block::ONE, &byte, Block(0x0100_0000_0000_0000, 8));
 }
 
 pub fn run() {
     elements();
-    products();
-    steps_back();
+    field();
     word();
-    hashes();
+    empty_message();
+    message_of_a_byte();
 }

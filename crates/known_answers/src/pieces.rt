@@ -20,7 +20,7 @@ pub enum Mix {
 }
 
 // The part of a message that a piece belongs to.
-pub enum Part {
+enum Part {
     A,
     C,
 }
@@ -39,7 +39,7 @@ fn path_of(mix: Mix, turn: usize) -> Path {
     }
 }
 
-pub fn fed(part: Part, path: Path, state: Running, key: &[u8], piece: &[u8]) -> Fed {
+fn fed(part: Part, path: Path, state: Running, key: &[u8], piece: &[u8]) -> Fed {
     match part {
         Part::A => match path {
             Path::Plain => fed_a_plain(state, key, piece),
@@ -52,11 +52,11 @@ pub fn fed(part: Part, path: Path, state: Running, key: &[u8], piece: &[u8]) -> 
     }
 }
 
-// The running hash after one more piece.
-fn after(part: Part, path: Path, state: Running, key: &[u8], piece: &[u8]) -> Running {
-    let f = fed(part, path, state, key, piece);
-    let s = f.state;
-    s
+fn finished(path: Path, state: Running, key: &[u8]) -> Finished {
+    match path {
+        Path::Plain => finished_plain(state, key),
+        Path::Fast => finished_fast(state, key),
+    }
 }
 
 // Where the piece that starts at `at` ends. A size of 0 takes all that is left.
@@ -73,42 +73,31 @@ fn piece_end(at: usize, size: usize, len: usize) -> usize
     len
 }
 
-// The running hash after all of s, in pieces of `size` bytes.
-fn feed(part: Part, mix: Mix, size: usize, state: Running, key: &[u8], s: &[u8]) -> Running {
-    let mut running = state;
+// The answer to the last piece of s, in pieces of `size` bytes.
+fn feed(part: Part, mix: Mix, size: usize, before: Fed, key: &[u8], s: &[u8]) -> Fed {
+    let mut last = before;
     let mut at: usize = 0;
     while at < s.len() {
         let end = piece_end(at, size, s.len());
-        running = after(part, path_of(mix, at / 16), running, key, &s[at..end]);
+        let state = last.state;
+        last = fed(part, path_of(mix, at / 16), state, key, &s[at..end]);
         at = end;
     }
-    running
+    last
 }
 
-// A running hash that was fed an empty piece of A.
-fn begun(key: &[u8]) -> Running {
+// The hash of a message in pieces of `size` bytes, an empty piece of A first. Where the last piece is refused, the number is that
+// refusal's and the hash that of the pieces before it.
+pub fn in_pieces(mix: Mix, size: usize, key: &[u8], a: &[u8], c: &[u8]) -> Answer {
     let none = [0u8; 0];
-    after(Part::A, Path::Plain, Running::new(), key, &none)
-}
-
-fn answer_of(f: Finished) -> Answer {
-    let block = f.block;
+    let begun = fed(Part::A, Path::Plain, Running::new(), key, &none);
+    let after_a = feed(Part::A, mix, size, begun, key, a);
+    let after_c = feed(Part::C, mix, size, after_a, key, c);
+    let state = after_c.state;
+    let end = finished(path_of(mix, size), state, key);
+    let block = end.block;
     Answer {
-        number: f.number,
+        number: after_c.number | end.number,
         block,
     }
-}
-
-fn finished(path: Path, state: Running, key: &[u8]) -> Answer {
-    match path {
-        Path::Plain => answer_of(finished_plain(state, key)),
-        Path::Fast => answer_of(finished_fast(state, key)),
-    }
-}
-
-// The hash of a message in pieces of `size` bytes, an empty piece of A first.
-pub fn in_pieces(mix: Mix, size: usize, key: &[u8], a: &[u8], c: &[u8]) -> Answer {
-    let after_a = feed(Part::A, mix, size, begun(key), key, a);
-    let after_c = feed(Part::C, mix, size, after_a, key, c);
-    finished(path_of(mix, size), after_c, key)
 }

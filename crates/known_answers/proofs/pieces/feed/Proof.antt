@@ -6,10 +6,10 @@ use Rattle.known_answers.proofs.pieces.feed.Statement.{statement}
 use Rattle.known_answers.proofs.pieces.feed.Tie as tie
 
 abbrev Inv-loop : tie.InvT-loop
-Inv-loop mix size part key s running₀ at₀ running at = at ≤ length s
+Inv-loop part mix size key s last₀ at₀ last at = at ≤ length s
 
 abbrev μ-loop : tie.MeasureT-loop
-μ-loop mix size part key s running₀ at₀ running at = length s - at
+μ-loop part mix size key s last₀ at₀ last at = length s - at
 
 loop-holds : tie.Need-loop-holds Inv-loop μ-loop
 loop-holds c = search needs
@@ -20,17 +20,17 @@ piece-end-requires c κs = search needs
 path-of-requires : tie.Need-path-of-requires Inv-loop μ-loop
 path-of-requires c κs = search needs
 
-sub-after : tie.Need-sub-after Inv-loop μ-loop
-sub-after c = search needs
+sub-fed : tie.Need-sub-fed Inv-loop μ-loop
+sub-fed c = search needs
 
-part-after-start : tie.Need-part-after-start Inv-loop μ-loop
-part-after-start c = search needs
+part-fed-start : tie.Need-part-fed-start Inv-loop μ-loop
+part-fed-start c = search needs
 
-part-after-end : tie.Need-part-after-end Inv-loop μ-loop
-part-after-end c = search needs
+part-fed-end : tie.Need-part-fed-end Inv-loop μ-loop
+part-fed-end c = search needs
 
-after-requires : tie.Need-after-requires Inv-loop μ-loop
-after-requires c κs = search needs
+fed-requires : tie.Need-fed-requires Inv-loop μ-loop
+fed-requires c κs = search needs
 
 loop-less : tie.Need-loop-less Inv-loop μ-loop
 loop-less c = search needs
@@ -50,10 +50,10 @@ feed-spec =
     loop-holds
     piece-end-requires
     path-of-requires
-    sub-after
-    part-after-start
-    part-after-end
-    after-requires
+    sub-fed
+    part-fed-start
+    part-fed-end
+    fed-requires
     loop-less
     loop-again
     returns)

@@ -1,0 +1,187 @@
+// Words done on a register file: marked cases, and both sides of the executor's limits.
+use crate::pattern::Pattern;
+use crate::pattern::fill;
+use crate::pattern::is_filled;
+use crate::tally::count;
+use crate::tally::report;
+use decoder::group::group_refusal;
+use decoder::settings::Settings;
+use element::element::read_le;
+use vector::execute::execute;
+
+// Words on v8, v16 and v24.
+const VCLMUL_VV: u32 = 0x330C2457;
+
+const VGHSH_VV: u32 = 0xB30C2477;
+
+const VGHSH_VS: u32 = 0x8F0C2477;
+
+const VGMUL_VV: u32 = 0xA308A477;
+
+const VGMUL_VS: u32 = 0xA708A477;
+
+// vclmul.vv with 31 for vd, vs2 and vs1, and vgmul.vs with 31 for vs2, which is no group there.
+const VD_31: u32 = 0x330C2FD7;
+
+const VS2_31: u32 = 0x33FC2457;
+
+const VS1_31: u32 = 0x330FA457;
+
+const VGMUL_VS_31: u32 = 0xA7F8A477;
+
+// What the file holds before a call.
+const BEFORE: Pattern = Pattern(3, 7, 251);
+
+// Element 0 of v1 after a word on v1, v2 and v3, with a in the two low bytes of v2, and b in those of v3. Before, it is AA.
+pub fn element_after(word: u32, sew: u32, a: u8, b: u8) -> u64 {
+    let mut file = [0u8; 512];
+    file[16] = 0xAA;
+    file[32] = a;
+    file[33] = a;
+    file[48] = b;
+    file[49] = b;
+    let s = Settings {
+        vlen: 128,
+        sew,
+        lmul: 1,
+        vl: 1,
+        vstart: 0,
+    };
+    execute(word, s, 0, &mut file);
+    read_le(&file, 16, 2)
+}
+
+// The number is as it should be. A refusal leaves the file and vstart as they were; else vstart is 0, and the file is another where
+// vstart is below vl.
+fn answers(word: u32, s: Settings, number: u32, file_len: usize, space: &mut [u8]) -> bool {
+    if space.len() < file_len {
+        return false;
+    }
+    fill(BEFORE, space);
+    let e = execute(word, s, 0, &mut space[0..file_len]);
+    let kept = is_filled(BEFORE, space);
+    let same_vstart = e.vstart == s.vstart;
+    let refused = number != 0;
+    (e.number == number)
+        & ((refused & same_vstart) | (!refused & (e.vstart == 0)))
+        & (kept == (refused | (s.vl <= s.vstart)))
+}
+
+// A call with these settings, on a file of this length, answers this number.
+fn case(
+    agreed: u64,
+    word: u32,
+    file_len: usize,
+    vlen: u32,
+    sew: u32,
+    lmul: u32,
+    vl: u32,
+    vstart: u32,
+    number: u32,
+) -> u64 {
+    let mut space = [0u8; 2049];
+    let s = Settings {
+        vlen,
+        sew,
+        lmul,
+        vl,
+        vstart,
+    };
+    count(agreed, answers(word, s, number, file_len, &mut space))
+}
+
+fn vl_at_vlmax() {
+    let mut n: u64 = 0;
+    n = case(n, VCLMUL_VV, 512, 128, 8, 1, 16, 0, 0);
+    n = case(n, VCLMUL_VV, 512, 128, 8, 1, 17, 0, 3);
+    n = case(n, VCLMUL_VV, 512, 128, 64, 1, 2, 0, 0);
+    n = case(n, VCLMUL_VV, 512, 128, 64, 1, 3, 0, 3);
+    n = case(n, VCLMUL_VV, 1024, 256, 16, 2, 32, 0, 0);
+    n = case(n, VCLMUL_VV, 1024, 256, 16, 2, 33, 0, 3);
+    n = case(n, VGHSH_VV, 2048, 512, 32, 8, 128, 0, 0);
+    n = case(n, VGHSH_VV, 2048, 512, 32, 8, 132, 0, 3);
+    n = case(n, VCLMUL_VV, 2048, 512, 8, 8, 512, 0, 0);
+    n = case(n, VCLMUL_VV, 2048, 512, 8, 8, 513, 0, 3);
+    report(b"vl = VLMAX and VLMAX + 1", n, 10);
+}
+
+// Both are multiples of 4.
+fn ghash_vl_and_vstart() {
+    let mut n: u64 = 0;
+    n = case(n, VGHSH_VV, 512, 128, 32, 2, 4, 0, 0);
+    n = case(n, VGHSH_VV, 512, 128, 32, 2, 5, 0, 5);
+    n = case(n, VGHSH_VS, 512, 128, 32, 2, 4, 0, 0);
+    n = case(n, VGHSH_VS, 512, 128, 32, 2, 5, 0, 5);
+    n = case(n, VGMUL_VV, 512, 128, 32, 2, 4, 0, 0);
+    n = case(n, VGMUL_VV, 512, 128, 32, 2, 5, 0, 5);
+    n = case(n, VGMUL_VS, 512, 128, 32, 2, 4, 0, 0);
+    n = case(n, VGMUL_VS, 512, 128, 32, 2, 5, 0, 5);
+    n = case(n, VGHSH_VV, 512, 128, 32, 2, 8, 4, 0);
+    n = case(n, VGHSH_VV, 512, 128, 32, 2, 8, 5, 5);
+    n = case(n, VGHSH_VV, 512, 128, 32, 2, 4, 4, 0);
+    report(b"vl and vstart of a GHASH word", n, 11);
+}
+
+fn register_31() {
+    let mut n: u64 = 0;
+    n = case(n, VD_31, 512, 128, 32, 1, 4, 1, 0);
+    n = case(n, VD_31, 512, 128, 32, 2, 4, 1, 6);
+    n = case(n, VS2_31, 512, 128, 32, 1, 4, 1, 0);
+    n = case(n, VS2_31, 512, 128, 32, 2, 4, 1, 6);
+    n = case(n, VS1_31, 512, 128, 32, 1, 4, 1, 0);
+    n = case(n, VS1_31, 512, 128, 32, 2, 4, 1, 6);
+    n = case(n, VGMUL_VS_31, 512, 128, 32, 2, 4, 0, 0);
+    report(b"Register 31 with LMUL 1 and 2", n, 7);
+}
+
+fn settings_and_file_lengths() {
+    let mut n: u64 = 0;
+    n = case(n, VCLMUL_VV, 256, 64, 8, 1, 1, 1, 1);
+    n = case(n, VCLMUL_VV, 2048, 1024, 8, 1, 1, 1, 1);
+    n = case(n, VCLMUL_VV, 512, 128, 4, 1, 1, 1, 3);
+    n = case(n, VCLMUL_VV, 512, 128, 128, 1, 1, 1, 3);
+    n = case(n, VCLMUL_VV, 512, 128, 0, 1, 1, 1, 3);
+    n = case(n, VCLMUL_VV, 512, 128, 8, 0, 1, 1, 3);
+    n = case(n, VCLMUL_VV, 512, 128, 8, 3, 1, 1, 3);
+    n = case(n, VCLMUL_VV, 512, 128, 8, 16, 1, 1, 3);
+    n = case(n, VGHSH_VV, 512, 128, 16, 1, 4, 4, 4);
+    n = case(n, VGHSH_VV, 512, 128, 64, 2, 4, 4, 4);
+    n = case(n, VCLMUL_VV, 511, 128, 8, 1, 16, 1, 1);
+    n = case(n, VCLMUL_VV, 512, 128, 8, 1, 16, 1, 0);
+    n = case(n, VCLMUL_VV, 513, 128, 8, 1, 16, 1, 1);
+    n = case(n, VCLMUL_VV, 1023, 256, 8, 1, 16, 1, 1);
+    n = case(n, VCLMUL_VV, 1024, 256, 8, 1, 16, 1, 0);
+    n = case(n, VCLMUL_VV, 1025, 256, 8, 1, 16, 1, 1);
+    n = case(n, VCLMUL_VV, 2047, 512, 8, 1, 16, 1, 1);
+    n = case(n, VCLMUL_VV, 2048, 512, 8, 1, 16, 1, 0);
+    n = case(n, VCLMUL_VV, 2049, 512, 8, 1, 16, 1, 1);
+    report(b"VLEN, SEW, LMUL and the length of the file", n, 19);
+}
+
+// The number that is given for a register group.
+fn group(agreed: u64, vlen: u32, file_len: usize, lmul: u32, register: u32, number: u32) -> u64 {
+    count(
+        agreed,
+        group_refusal(vlen, file_len, lmul, register) == number,
+    )
+}
+
+fn group_question() {
+    let mut n: u64 = 0;
+    n = group(n, 128, 512, 1, 31, 0);
+    n = group(n, 128, 512, 2, 31, 6);
+    n = group(n, 128, 512, 2, 30, 0);
+    n = group(n, 128, 512, 1, 32, 6);
+    n = group(n, 128, 512, 3, 30, 3);
+    n = group(n, 128, 511, 1, 30, 1);
+    n = group(n, 128, 513, 1, 30, 1);
+    report(b"The group question", n, 7);
+}
+
+pub fn run() {
+    vl_at_vlmax();
+    ghash_vl_and_vstart();
+    register_31();
+    settings_and_file_lengths();
+    group_question();
+}
