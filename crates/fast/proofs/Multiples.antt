@@ -1,29 +1,30 @@
 -- The laws of the fast path's tables. Main results: `halves-shifted` (times x, j times, by the halves of a block), `reduced` (the
--- reductions' rule, by one test), `sixteen-put` (the multiples, four at a time) and `tables`.
+-- reductions' rule, by one test), `overflow-more` (the reduction of more than four coefficients), `sixteen-put` (the multiples, four at
+-- a time) and `next-table`.
 -- Assumes nothing.
 use mathlib.Core.Path.{_≡_, refl, sym, ap, ap₂, _∙_, subst}
-use mathlib.Core.Bool.{Bool}
+use mathlib.Core.Bool.{Bool, _&&_}
 use mathlib.Core.List.{List}
 use mathlib.Core.Logic.{⊎-elim}
 use Prim.Native.Nat.{ℕ, zero, suc, _+_, _-_, _*_, _/_, _%_, _^_, _<_, _≤_}
-use native.Mathlib.Nat.{le-refl, zero-add, add-zero, add-assoc, add-comm, add-mul, mul-assoc, mul-comm, mod-lt, mul-add-div-right, mul-add-mod-self-right, eq-zero-or-pos, not-suc-le-zero}
+use native.Mathlib.Nat.{zero-div, add-zero, add-assoc, add-comm, add-mul, mul-assoc, mul-comm, mod-lt, mul-add-div-right, mul-add-mod-self-right, eq-zero-or-pos, not-suc-le-zero}
 use native.Mathlib.Omega.{arith}
 use lib.Arith.{digits-lt}
-use lib.Pow.{pow-pos, pow-add, split, shr-lt}
-use lib.Bits.{bitXor, xor-lt, xor-zero-r}
+use lib.Pow.{pow-pos, pow-add, split, shr-lt, field, mod-mod-pow, mod-pow-add}
+use lib.Bits.{bitXor, xor-comm, xor-lt, xor-mod, xor-shifted, xor-zero-r}
 use lib.Dec.{T, eqb, eqb→eq, lit<}
 use lib.ListN.{length, getD}
 use lib.Seq.{sets, length-sets}
 use Rattle.gf128.specs.Field.{timesX, shiftedOf, reduction, shifted, product}
-use Rattle.gf128.proofs.Nibbles.{shiftedOf-overflow, productOf-place, productOf-digits}
-use Rattle.gf128.proofs.Places.{productOf-zero-left}
+use Rattle.gf128.proofs.Nibbles.{shiftedOf-multiple, shiftedOf-overflow, productOf-place, productOf-digits}
+use Rattle.gf128.proofs.Places.{and-left, and-right, shiftedOf-add, shiftedOf-xor, productOf-zero-left}
 use Rattle.gf128.proofs.Stores.{sets-at, sets-below, sets-above}
 use Rattle.gf128.proofs.Tests.{every, at}
-use Rattle.gf128.proofs.Xor.{xor-assoc}
+use Rattle.gf128.proofs.Xor.{xor-assoc, xor-shl}
 use Rattle.field.proofs.Halves.{halves-xor}
 use Rattle.field.specs.declared.block.Block.{Block}
 use Rattle.field.specs.Block.{valueOf}
-use Rattle.fast.specs.Table.{pairAt, nibble, fourOf, MultiplesPut, ReductionsIn, TableOf}
+use Rattle.fast.specs.Table.{pairAt, nibble, fourOf, MultiplesPut, ReductionsIn, TablesTo}
 
 -- ---- a block as two halves of i + j digits
 
@@ -64,17 +65,54 @@ module _ (i j a r : ℕ) where
 
 -- ---- the reductions
 
--- the test of entry n: the block with e as its high half is n, times x four times
+-- the test of entry n: the block with e as its high half is n, times x four times, and e ends in 32 zeros
 abbrev pub reduces : ℕ → ℕ → Bool
-reduces n e = eqb (e * 2 ^ 64) (shifted n 4)
+reduces n e = eqb (e * 2 ^ 64) (shifted n 4) && eqb (e % 2 ^ 32) 0
 
 pub record Reduced (r : List ℕ) : Type 0 where
   pub rule : (n : ℕ) → n < 16 → getD r n 0 * 2 ^ 64 ≡ shifted n 4
+  pub first : (n : ℕ) → n < 16 → getD r n 0 % 2 ^ 32 ≡ 0
 
 pub reduced : (r : List ℕ) → length r ≡ 16 → T (every reduces 0 r) → Reduced r
 reduced r l passes = record {
-  rule = λ n h. eqb→eq (getD r n 0 * 2 ^ 64) (shifted n 4) (at reduces r passes n (subst (λ (x : ℕ). n < x) (sym l) h));
+  rule = λ n h. eqb→eq (getD r n 0 * 2 ^ 64) (shifted n 4) (and-left (eqb (getD r n 0 * 2 ^ 64) (shifted n 4)) (eqb (getD r n 0 % 2 ^ 32) 0) (test n h));
+  first = λ n h. eqb→eq (getD r n 0 % 2 ^ 32) 0 (and-right (eqb (getD r n 0 * 2 ^ 64) (shifted n 4)) (eqb (getD r n 0 % 2 ^ 32) 0) (test n h));
 }
+  where
+    test : (n : ℕ) → n < 16 → T (reduces n (getD r n 0))
+    test n h = at reduces r passes n (subst (λ (x : ℕ). n < x) (sym l) h)
+
+-- ---- an overflow of more coefficients, four at a time
+
+-- what stays of a number that ends in k + j zeros when j of them leave
+ends : (a j k : ℕ) → a % 2 ^ (k + j) ≡ 0 → a / 2 ^ j % 2 ^ k ≡ 0
+ends a j k e =
+    sym (field a k j) ∙ ap (λ (x : ℕ). x / 2 ^ j) e ∙ zero-div (2 ^ j)
+
+-- r is what the first k of v's last coefficients come back as, and ends in l + 4 zeros; e is the reduction of the next four
+module _ (R v k l w r e : ℕ) (er : r * 2 ^ w ≡ shiftedOf R (v % 2 ^ k) k) (zr : r % 2 ^ (l + 4) ≡ 0) where
+  pub overflow-ends : e % 2 ^ l ≡ 0 → bitXor (r / 2 ^ 4) e % 2 ^ l ≡ 0
+  overflow-ends z = xor-mod (r / 2 ^ 4) e l ∙ ap₂ bitXor (ends r 4 l zr) z
+
+  moved-on : r / 2 ^ 4 * 2 ^ w ≡ shiftedOf R (r * 2 ^ w) 4
+  moved-on =
+      let whole4 : r / 2 ^ 4 * 2 ^ 4 ≡ r = sym (add-zero (r / 2 ^ 4 * 2 ^ 4))
+      ∙ ap (λ (x : ℕ). r / 2 ^ 4 * 2 ^ 4 + x) (sym (sym (mod-mod-pow r l 4) ∙ ap (λ (x : ℕ). x % 2 ^ 4) zr)) ∙ split r 4 in
+      sym (shiftedOf-multiple R (r / 2 ^ 4 * 2 ^ w) 4)
+      ∙ ap (λ (x : ℕ). shiftedOf R x 4)
+      (mul-assoc (r / 2 ^ 4) (2 ^ w) (2 ^ 4) ∙ ap (λ (x : ℕ). r / 2 ^ 4 * x) (mul-comm (2 ^ w) (2 ^ 4))
+      ∙ sym (mul-assoc (r / 2 ^ 4) (2 ^ 4) (2 ^ w)) ∙ ap (λ (x : ℕ). x * 2 ^ w) whole4)
+
+  pub overflow-more : e * 2 ^ w ≡ shiftedOf R (v / 2 ^ k % 2 ^ 4) 4 → bitXor (r / 2 ^ 4) e * 2 ^ w ≡ shiftedOf R (v % 2 ^ (k + 4)) (k + 4)
+  overflow-more ee =
+      let n = v / 2 ^ k % 2 ^ 4 in
+      xor-shl (r / 2 ^ 4) e w
+      ∙ ap₂ bitXor (moved-on ∙ ap (λ (x : ℕ). shiftedOf R x 4) er ∙ sym (shiftedOf-add R (v % 2 ^ k) k 4))
+      (ee ∙ ap (λ (x : ℕ). shiftedOf R x 4) (sym (shiftedOf-multiple R n k)) ∙ sym (shiftedOf-add R (n * 2 ^ k) k 4))
+      ∙ sym (shiftedOf-xor R (v % 2 ^ k) (n * 2 ^ k) (k + 4))
+      ∙ ap (λ (x : ℕ). shiftedOf R x (k + 4))
+      (xor-comm (v % 2 ^ k) (n * 2 ^ k) ∙ xor-shifted n k (v % 2 ^ k) (mod-lt v (pow-pos k))
+      ∙ sym (mod-pow-add v 4 k) ∙ ap (λ (x : ℕ). v % 2 ^ x) (add-comm 4 k))
 
 -- ---- the multiples
 
@@ -177,16 +215,27 @@ module _ (h h4 h2 h1 h12 : Block) (l8 : h .1 < 2 ^ 64) (l4 : h4 .1 < 2 ^ 64) (l2
 -- ---- the tables
 
 -- the multiples stand before the reductions
-pub reductions-kept : (t t' : List ℕ) (at h : ℕ) → at ≤ 32 → MultiplesPut t at h 16 t' → ReductionsIn t → ReductionsIn t'
+pub reductions-kept : (t t' : List ℕ) (at h : ℕ) → at ≤ 96 → MultiplesPut t at h 16 t' → ReductionsIn t → ReductionsIn t'
 reductions-kept t t' at h l m r = record {
-  overflow = λ n ln. ap (λ (x : ℕ). x * 2 ^ 64) (m .above (64 + n) (omega arith)) ∙ r .overflow n ln;
+  overflow = λ n ln. ap (λ (x : ℕ). x * 2 ^ 64) (m .above (128 + n) (omega arith)) ∙ r .overflow n ln;
+  first = λ n ln. ap (λ (x : ℕ). x % 2 ^ 32) (m .above (128 + n) (omega arith)) ∙ r .first n ln;
 }
 
-pub tables : (t t' t'' : List ℕ) (h g : ℕ) → MultiplesPut t 0 h 16 t' → ReductionsIn t' → g ≡ shifted h 64 → MultiplesPut t' 32 g 16 t'' → TableOf h t''
-tables t t' t'' h g m r e m' = record {
-  first = λ n l.
-      ap₂ (λ (x y : ℕ). x * 2 ^ 64 + y) (m' .below (2 * n) (omega arith)) (m' .below (2 * n + 1) (omega arith))
-      ∙ ap (pairAt t') (sym (zero-add (2 * n))) ∙ m .entry n l;
-  second = λ n l. m' .entry n l ∙ ap (product (nibble n)) e;
-  overflow = reductions-kept t' t'' 32 g (le-refl 32) m' r .overflow;
+pub no-table : (h : ℕ) (t : List ℕ) → ReductionsIn t → TablesTo 0 h t
+no-table h t r = record { entry = λ q n l ln. absurd (not-suc-le-zero l); reductions = r }
+
+-- one table more
+pub next-table : (k h g : ℕ) (t t' : List ℕ) → k < 4 → TablesTo k h t → g ≡ shifted h (32 * k) → MultiplesPut t (32 * k) g 16 t' → TablesTo (k + 1) h t'
+next-table k h g t t' l tables e m = record {
+  entry = λ q n lq ln.
+      ⊎-elim
+      (λ (new : k - q ≡ 0).
+      let is : k ≡ q = omega arith in
+      subst (λ (x : ℕ). pairAt t' (32 * x + 2 * n) ≡ product (nibble n) (shifted h (32 * x))) is
+      (m .entry n ln ∙ ap (product (nibble n)) e))
+      (λ (old : 0 < k - q).
+      ap₂ (λ (x y : ℕ). x * 2 ^ 64 + y) (m .below (32 * q + 2 * n) (omega arith)) (m .below (32 * q + 2 * n + 1) (omega arith))
+      ∙ tables .entry q n (omega arith) ln)
+      (eq-zero-or-pos (k - q));
+  reductions = reductions-kept t t' (32 * k) g (omega arith) m (tables .reductions);
 }

@@ -1,14 +1,15 @@
 // The fast product: four coefficients at a time, with the key's multiples in tables.
 //
-// U·H is U_high·H xor U_low·(H·x^64), so that one chain of 16 steps serves both halves of U. A step takes four
-// coefficients of each half, from the last to the first: Z := Z·x^4 xor an entry of each table.
+// U·H is the sum of U's four quarters of 32 coefficients, quarter q times H·x^(32·q), so that one chain of 8 steps
+// serves all four. A step takes four coefficients of each quarter, from the last to the first: Z := Z·x^4 xor an
+// entry of each table.
 ghost use mathlib.Core.Path.{_≡_};
-ghost use Prim.Native.Nat.{ℕ, _+_, _≤_, _<_};
+ghost use Prim.Native.Nat.{ℕ, _+_, _*_, _%_, _^_, _≤_, _<_};
 ghost use lib.Bits.{bitXor};
 ghost use lib.ListN.{length};
 ghost use lib.Seq.{sets};
 ghost use Rattle.field.specs.Block.{valueOf, keyOf};
-ghost use Rattle.fast.specs.Table.{TableOf, ReductionsIn, ReductionsPut, MultiplesPut, fourOf, nibble};
+ghost use Rattle.fast.specs.Table.{TableOf, ReductionsIn, ReductionsPut, MultiplesPut, fourOf, nibble, entriesOf};
 ghost use Rattle.gf128.specs.Entries.{productRefusal, productBlock};
 ghost use Rattle.gf128.specs.Field.{product, shifted};
 use field::block::Block;
@@ -17,6 +18,9 @@ use field::block::block_at;
 use field::block::key_at_start;
 use field::product::Answer;
 use field::product::times_x;
+
+// The numbers in a key's tables: four tables of sixteen blocks, then the reductions.
+pub const TABLES: usize = 144;
 
 // The sixteen reductions of a four-bit overflow: the high half of each. The low halves are zero.
 const REDUCTIONS: [u64; 16] = [
@@ -40,27 +44,54 @@ const REDUCTIONS: [u64; 16] = [
 
 // Copies the reductions into the tables' last sixteen places: an indexed constant would be stored again at each use.
 fn put_reductions(t: &mut [u64])
-    requires { ⌜ length (now t) ≡ 80 ⌝ }
+    requires { ⌜ length (now t) ≡ 144 ⌝ }
     ensures { λ _. ⌜ ReductionsPut (now (t .entry)) (now (t .exit)) ⌝ }
 {
     let r = REDUCTIONS;
     let mut n: usize = 0;
     while n < 16 {
-        t[64 + n] = r[n];
+        t[128 + n] = r[n];
         n += 1;
     }
 }
 
 // z times x^4.
-fn times_x4(t: &[u64; 80], z: Block) -> Block
+fn times_x4(t: &[u64; TABLES], z: Block) -> Block
     ensures { λ r. ⌜ (ReductionsIn (now (t .entry)) → valueOf r ≡ shifted (valueOf z) 4) ⌝ }
 {
     let high = z.0;
     let low = z.1;
     let n = (low % 16) as usize;
     Block(
-        (high / 16) ^ t[64 + n],
+        (high / 16) ^ t[128 + n],
         low / 16 + high % 16 * 0x1000_0000_0000_0000,
+    )
+}
+
+// The high half of what the last 32 coefficients of v come back as, when they leave. The low half is zero.
+fn reduced(t: &[u64; TABLES], v: u64) -> u64
+    ensures { λ r. ⌜ (ReductionsIn (now (t .entry)) → r * 2 ^ 64 ≡ shifted (v % 2 ^ 32) 32) ⌝ }
+{
+    let mut high: u64 = 0;
+    let mut rest = v;
+    let mut i: u64 = 0;
+    while i < 8 {
+        high = (high / 16) ^ t[128 + (rest % 16) as usize];
+        rest = rest / 16;
+        i += 1;
+    }
+    high
+}
+
+// z times x^32. Its reductions wait for no other one, unlike those of eight times x^4.
+fn times_x32(t: &[u64; TABLES], z: Block) -> Block
+    ensures { λ r. ⌜ (ReductionsIn (now (t .entry)) → valueOf r ≡ shifted (valueOf z) 32) ⌝ }
+{
+    let high = z.0;
+    let low = z.1;
+    Block(
+        (high / 0x1_0000_0000) ^ reduced(t, low),
+        low / 0x1_0000_0000 + high % 0x1_0000_0000 * 0x1_0000_0000,
     )
 }
 
@@ -94,50 +125,62 @@ fn put_multiples(t: &mut [u64], at: usize, h: Block)
 }
 
 // Fills the tables of a key.
-pub fn fill_tables(t: &mut [u64; 80], h: Key)
+pub fn fill_tables(t: &mut [u64; TABLES], h: Key)
     ensures { λ _. ⌜ TableOf (keyOf h) (now (t .exit)) ⌝ }
 {
     put_reductions(t);
     let mut v = Block(h.0, h.1);
     put_multiples(t, 0, v);
-    let mut i: u64 = 0;
-    while i < 16 {
-        v = times_x4(t, v);
-        i += 1;
+    let mut q: usize = 0;
+    while q < 3 {
+        v = times_x32(t, v);
+        q += 1;
+        put_multiples(t, 32 * q, v);
     }
-    put_multiples(t, 32, v);
 }
 
-// z times x^4, plus an entry of each table.
-fn step(t: &[u64; 80], z: Block, a: u64, b: u64) -> Block
-    requires { ⌜ (a < 16) × (b < 16) ⌝ }
-    ensures { λ r. ⌜ ((h : ℕ) → TableOf h (now (t .entry))
-        → valueOf r ≡ bitXor (bitXor (shifted (valueOf z) 4) (product (nibble a) h)) (product (nibble b) (shifted h 64))) ⌝ }
+// Entry n of table q: the block of the four coefficients n, times H·x^(32·q).
+fn entry(t: &[u64; TABLES], q: u64, n: u64) -> Block
+    requires { ⌜ (q < 4) × (n < 16) ⌝ }
+    ensures { λ r. ⌜ ((h : ℕ) → TableOf h (now (t .entry)) → valueOf r ≡ product (nibble n) (shifted h (32 * q))) ⌝ }
 {
-    let i = (2 * a) as usize;
-    let j = (32 + 2 * b) as usize;
-    let entries = Block(t[i], t[i + 1]).xor(Block(t[j], t[j + 1]));
-    times_x4(t, z).xor(entries)
+    let i = (32 * q + 2 * n) as usize;
+    Block(t[i], t[i + 1])
 }
 
-// U·H on the fast path, with the tables of H.
-pub fn product_fast(t: &[u64; 80], u: Block) -> Block
+// An entry of each table, added.
+fn entries(t: &[u64; TABLES], a: u64, b: u64, c: u64, d: u64) -> Block
+    requires { ⌜ (a < 16) × (b < 16) × (c < 16) × (d < 16) ⌝ }
+    ensures { λ r. ⌜ ((h : ℕ) → TableOf h (now (t .entry)) → valueOf r ≡ entriesOf h a b c d) ⌝ }
+{
+    let first = entry(t, 0, a).xor(entry(t, 1, b));
+    first.xor(entry(t, 2, c).xor(entry(t, 3, d)))
+}
+
+// U·H on the fast path, with the tables of H. The entries of a step are read one step ahead, so that the chain does
+// not wait for them.
+pub fn product_fast(t: &[u64; TABLES], u: Block) -> Block
     ensures { λ r. ⌜ ((h : ℕ) → TableOf h (now (t .entry)) → valueOf r ≡ product (valueOf u) h) ⌝ }
 {
+    let high = u.0;
+    let low = u.1;
+    let mut a = high / 0x1_0000_0000;
+    let mut b = high % 0x1_0000_0000;
+    let mut c = low / 0x1_0000_0000;
+    let mut d = low % 0x1_0000_0000;
     let mut z = Block(0, 0);
-    let mut high = u.0;
-    let mut low = u.1;
+    let mut e = entries(t, a % 16, b % 16, c % 16, d % 16);
     let mut i: u64 = 0;
-    while i < 4 {
-        z = step(t, z, high % 16, low % 16);
-        z = step(t, z, high / 16 % 16, low / 16 % 16);
-        z = step(t, z, high / 256 % 16, low / 256 % 16);
-        z = step(t, z, high / 4096 % 16, low / 4096 % 16);
-        high = high / 65536;
-        low = low / 65536;
+    while i < 7 {
+        a = a / 16;
+        b = b / 16;
+        c = c / 16;
+        d = d / 16;
+        z = times_x4(t, z).xor(e);
+        e = entries(t, a % 16, b % 16, c % 16, d % 16);
         i += 1;
     }
-    z
+    times_x4(t, z).xor(e)
 }
 
 // The fast product of a key and a block given as bytes.
@@ -157,7 +200,7 @@ pub fn product_fast_bytes(key: &[u8], block: &[u8]) -> Answer
             block: Block::ZERO,
         };
     }
-    let mut t = [0u64; 80];
+    let mut t = [0u64; TABLES];
     fill_tables(&mut t, key_at_start(key));
     Answer {
         number: 0,

@@ -9,10 +9,11 @@ use crate::block::Key;
 use crate::block::block_at;
 use crate::block::key_at_start;
 
-// Document 01's number, and the block, which is zero where the number is not.
+// Document 01's number, and the block, which is zero where the number is not. The block stands first, so that an answer
+// is not copied in pieces that cut it.
 pub struct Answer {
-    pub number: u32,
     pub block: Block,
+    pub number: u32,
 }
 
 // The block times x.

@@ -1,16 +1,18 @@
--- One chain of steps for two products at once, four coefficients at a time, from the last to the first: a·h xor b·g.
--- Main results: `chain-round` (four steps, 16 coefficients) and `chain-end` (both halves of a block are done, and g is h times x ^ j: the block's product).
+-- One chain of steps for four products at once, four coefficients at a time, from the last to the first.
+-- Main results: `chain-step` (four more coefficients of each factor) and `chain-end` (the four quarters of a block are done, and the
+-- keys are h, times x ^ j, x ^ 2j and x ^ 3j: the block's product).
 -- Assumes nothing.
-use mathlib.Core.Path.{_≡_, sym, ap, ap₂, _∙_}
+use mathlib.Core.Path.{_≡_, sym, ap, ap₂, _∙_, subst}
 use Prim.Native.Nat.{ℕ, suc, _+_, _-_, _*_, _/_, _%_, _^_, _<_, _≤_}
-use native.Mathlib.Nat.{add-assoc, add-comm, mod-one, mod-eq-of-lt, zero-mul}
+use native.Mathlib.Nat.{add-comm, mod-one, mod-eq-of-lt, zero-mul}
 use native.Mathlib.Omega.{arith}
+use lib.Arith.{digits-lt}
 use lib.Bits.{bitXor, xor-comm}
-use lib.Pow.{shr-shr}
+use lib.Pow.{pow-add}
 use Rattle.gf128.specs.Field.{shiftedOf, productOf}
-use Rattle.gf128.proofs.Xor.{xor-assoc, xor-swap4}
-use Rattle.gf128.proofs.Places.{shiftedOf-xor, productOf-zero-left}
-use Rattle.gf128.proofs.Nibbles.{productOf-step, productOf-halves}
+use Rattle.gf128.proofs.Xor.{xor-swap4}
+use Rattle.gf128.proofs.Places.{shiftedOf-xor, shiftedOf-add, productOf-zero-left}
+use Rattle.gf128.proofs.Nibbles.{productOf-step, productOf-halves, productOf-split}
 
 -- the k low digits of u, as the first k coefficients
 abbrev pub front : ℕ → ℕ → ℕ → ℕ
@@ -20,83 +22,74 @@ front m u k = u % 2 ^ k * 2 ^ (suc m - k)
 abbrev pub four : ℕ → ℕ → ℕ
 four m n = n * 2 ^ (suc m - 4)
 
-module _ (m R h g : ℕ) where
-  -- one step: times x ^ 4, then four coefficients of each factor
-  abbrev pub stepOf : ℕ → ℕ → ℕ → ℕ
-  stepOf z p q = bitXor (bitXor (shiftedOf R z 4) (productOf m R (four m p) h)) (productOf m R (four m q) g)
+abbrev sum : ℕ → ℕ → ℕ → ℕ → ℕ
+sum a b c d = bitXor (bitXor a b) (bitXor c d)
 
-  -- four steps, with the 16 low digits of p and of q
-  abbrev pub roundOf : ℕ → ℕ → ℕ → ℕ
-  roundOf z p q =
-      stepOf (stepOf (stepOf (stepOf z (p % 2 ^ 4) (q % 2 ^ 4)) (p / 2 ^ 4 % 2 ^ 4) (q / 2 ^ 4 % 2 ^ 4)) (p / 2 ^ 8 % 2 ^ 4) (q / 2 ^ 8 % 2 ^ 4))
-      (p / 2 ^ 12 % 2 ^ 4) (q / 2 ^ 12 % 2 ^ 4)
+module _ (m R : ℕ) where
+  -- f is a chain that adds e k after its first k coefficients
+  abbrev Steps : (ℕ → ℕ) → (ℕ → ℕ) → Type 0
+  Steps f e = (k : ℕ) → k + 4 ≤ suc m → f (k + 4) ≡ bitXor (shiftedOf R (f k) 4) (e k)
 
-  module _ (a b : ℕ) where
-    -- with the k low digits of a and of b done
+  -- one product
+  single : (u v : ℕ) → Steps (λ (k : ℕ). productOf m R (front m u k) v) (λ (k : ℕ). productOf m R (four m (u / 2 ^ k % 2 ^ 4)) v)
+  single u v k l =
+      let d = suc m - (k + 4) in
+      let e : 4 + (k + d) ≡ suc m = omega arith in
+      let top : k + d ≡ suc m - 4 = omega arith in
+      let rest : d + 4 ≡ suc m - k = omega arith in
+      ap (λ (x : ℕ). productOf m R (u % 2 ^ x * 2 ^ d) v) (add-comm k 4)
+      ∙ productOf-step m R 4 k d u v e
+      ∙ xor-comm (productOf m R (u / 2 ^ k % 2 ^ 4 * 2 ^ (k + d)) v) (shiftedOf R (productOf m R (u % 2 ^ k * 2 ^ (d + 4)) v) 4)
+      ∙ ap₂ (λ (x y : ℕ). bitXor (shiftedOf R (productOf m R (u % 2 ^ k * 2 ^ x) v) 4) (productOf m R (u / 2 ^ k % 2 ^ 4 * 2 ^ y) v)) rest top
+
+  -- two chains at once
+  both : (f e g i : ℕ → ℕ) → Steps f e → Steps g i → Steps (λ (k : ℕ). bitXor (f k) (g k)) (λ (k : ℕ). bitXor (e k) (i k))
+  both f e g i s t k l =
+      ap₂ bitXor (s k l) (t k l)
+      ∙ xor-swap4 (shiftedOf R (f k) 4) (e k) (shiftedOf R (g k) 4) (i k)
+      ∙ ap (λ (x : ℕ). bitXor x (bitXor (e k) (i k))) (sym (shiftedOf-xor R (f k) (g k) 4))
+
+  nothing : (u v : ℕ) → productOf m R (front m u 0) v ≡ 0
+  nothing u v =
+      ap (λ (x : ℕ). productOf m R x v) (ap (λ (x : ℕ). x * 2 ^ (suc m - 0)) (mod-one u) ∙ zero-mul (2 ^ (suc m - 0)))
+      ∙ productOf-zero-left m R v
+
+  module _ (h g i j a b c d : ℕ) where
+    -- with the k low digits of each factor done
     unfoldable pub chain : ℕ → ℕ
-    chain k = bitXor (productOf m R (front m a k) h) (productOf m R (front m b k) g)
+    chain k = sum (productOf m R (front m a k) h) (productOf m R (front m b k) g) (productOf m R (front m c k) i) (productOf m R (front m d k) j)
+
+    -- what the next four coefficients add
+    abbrev pub entries : ℕ → ℕ → ℕ → ℕ → ℕ
+    entries p q r s = sum (productOf m R (four m p) h) (productOf m R (four m q) g) (productOf m R (four m r) i) (productOf m R (four m s) j)
 
     pub chain-start : chain 0 ≡ 0
     unfolding chain
-    chain-start = ap₂ bitXor (nothing a h) (nothing b g)
-      where
-        nothing : (u v : ℕ) → productOf m R (front m u 0) v ≡ 0
-        nothing u v =
-            ap (λ (x : ℕ). productOf m R x v) (ap (λ (x : ℕ). x * 2 ^ (suc m - 0)) (mod-one u) ∙ zero-mul (2 ^ (suc m - 0)))
-            ∙ productOf-zero-left m R v
+    chain-start = ap₂ bitXor (ap₂ bitXor (nothing a h) (nothing b g)) (ap₂ bitXor (nothing c i) (nothing d j))
 
-    group : (k u v : ℕ) → k + 4 ≤ suc m
-        → productOf m R (front m u (k + 4)) v
-        ≡ bitXor (shiftedOf R (productOf m R (front m u k) v) 4) (productOf m R (four m (u / 2 ^ k % 2 ^ 4)) v)
-    group k u v l =
-        let d = suc m - (k + 4) in
-        let e : 4 + (k + d) ≡ suc m = omega arith in
-        let top : k + d ≡ suc m - 4 = omega arith in
-        let rest : d + 4 ≡ suc m - k = omega arith in
-        ap (λ (x : ℕ). productOf m R (u % 2 ^ x * 2 ^ d) v) (add-comm k 4)
-        ∙ productOf-step m R 4 k d u v e
-        ∙ xor-comm (productOf m R (u / 2 ^ k % 2 ^ 4 * 2 ^ (k + d)) v) (shiftedOf R (productOf m R (u % 2 ^ k * 2 ^ (d + 4)) v) 4)
-        ∙ ap₂ (λ (x y : ℕ). bitXor (shiftedOf R (productOf m R (u % 2 ^ k * 2 ^ x) v) 4) (productOf m R (u / 2 ^ k % 2 ^ 4 * 2 ^ y) v)) rest top
-
-    -- four more digits of each
-    chain-step : (k : ℕ) → k + 4 ≤ suc m → chain (k + 4) ≡ stepOf (chain k) (a / 2 ^ k % 2 ^ 4) (b / 2 ^ k % 2 ^ 4)
+    pub chain-step : (k : ℕ) → k + 4 ≤ suc m
+        → chain (k + 4) ≡ bitXor (shiftedOf R (chain k) 4) (entries (a / 2 ^ k % 2 ^ 4) (b / 2 ^ k % 2 ^ 4) (c / 2 ^ k % 2 ^ 4) (d / 2 ^ k % 2 ^ 4))
     unfolding chain
     chain-step k l =
-        let s = shiftedOf R (productOf m R (front m a k) h) 4 in
-        let t = shiftedOf R (productOf m R (front m b k) g) 4 in
-        let p = productOf m R (four m (a / 2 ^ k % 2 ^ 4)) h in
-        let q = productOf m R (four m (b / 2 ^ k % 2 ^ 4)) g in
-        ap₂ bitXor (group k a h l) (group k b g l)
-        ∙ xor-swap4 s p t q
-        ∙ sym (xor-assoc (bitXor s t) p q)
-        ∙ ap (λ (x : ℕ). bitXor (bitXor x p) q) (sym (shiftedOf-xor R (productOf m R (front m a k) h) (productOf m R (front m b k) g) 4))
+        both _ _ _ _ (both _ _ _ _ (single a h) (single b g)) (both _ _ _ _ (single c i) (single d j)) k l
 
-    -- the same where the digits before k are gone: j digits later
-    chain-later : (k j : ℕ) → k + j + 4 ≤ suc m
-        → chain (k + (j + 4)) ≡ stepOf (chain (k + j)) (a / 2 ^ k / 2 ^ j % 2 ^ 4) (b / 2 ^ k / 2 ^ j % 2 ^ 4)
-    chain-later k j l =
-        ap chain (sym (add-assoc k j 4)) ∙ chain-step (k + j) l
-        ∙ ap₂ (λ (x y : ℕ). stepOf (chain (k + j)) (x % 2 ^ 4) (y % 2 ^ 4)) (sym (shr-shr a k j)) (sym (shr-shr b k j))
-
-    -- sixteen more digits of each, where the digits before k are gone
-    pub chain-round : (k : ℕ) → k + 16 ≤ suc m → chain (k + 16) ≡ roundOf (chain k) (a / 2 ^ k) (b / 2 ^ k)
-    chain-round k l =
-        let A = a / 2 ^ k in
-        let B = b / 2 ^ k in
-        chain-later k 12 (omega arith)
-        ∙ ap (λ (x : ℕ). stepOf x (A / 2 ^ 12 % 2 ^ 4) (B / 2 ^ 12 % 2 ^ 4))
-        (chain-later k 8 (omega arith)
-        ∙ ap (λ (x : ℕ). stepOf x (A / 2 ^ 8 % 2 ^ 4) (B / 2 ^ 8 % 2 ^ 4))
-        (chain-later k 4 (omega arith)
-        ∙ ap (λ (x : ℕ). stepOf x (A / 2 ^ 4 % 2 ^ 4) (B / 2 ^ 4 % 2 ^ 4)) (chain-step k (omega arith))))
-
--- both halves of j coefficients are done: the whole product
-pub chain-end : (m R h j a b : ℕ) → j + j ≡ suc m → a < 2 ^ j → b < 2 ^ j
-    → chain m R h (shiftedOf R h j) a b j ≡ productOf m R (a * 2 ^ j + b) h
+-- the quarters of j coefficients are done: the whole product
+pub chain-end : (m R h j a b c d : ℕ) → j + (j + (j + j)) ≡ suc m → a < 2 ^ j → b < 2 ^ j → c < 2 ^ j → d < 2 ^ j
+    → chain m R h (shiftedOf R h j) (shiftedOf R h (j + j)) (shiftedOf R h (j + j + j)) a b c d j
+    ≡ productOf m R ((a * 2 ^ j + b) * 2 ^ (j + j) + (c * 2 ^ j + d)) h
 unfolding chain
-chain-end m R h j a b e ha hb =
-    let d : suc m - j ≡ j = omega arith in
-    ap₂ (λ (x y : ℕ). bitXor (productOf m R (x * 2 ^ (suc m - j)) h) (productOf m R (y * 2 ^ (suc m - j)) (shiftedOf R h j)))
-    (mod-eq-of-lt ha) (mod-eq-of-lt hb)
-    ∙ ap (λ (x : ℕ). bitXor (productOf m R (a * 2 ^ x) h) (productOf m R (b * 2 ^ x) (shiftedOf R h j))) d
-    ∙ sym (productOf-halves m R j j a b h e hb)
+chain-end m R h j a b c d e ha hb hc hd =
+    let rest : suc m - j ≡ j + (j + j) = omega arith in
+    let halves : j + j + (j + j) ≡ suc m = omega arith in
+    let low : c * 2 ^ j + d < 2 ^ (j + j) = subst (λ (x : ℕ). c * 2 ^ j + d < x) (sym (pow-add 2 j j)) (digits-lt hc hd) in
+    ap₂ bitXor (ap₂ bitXor (placed a h ha rest) (placed b (shiftedOf R h j) hb rest))
+    (ap₂ bitXor (placed c (shiftedOf R h (j + j)) hc rest) (placed d (shiftedOf R h (j + j + j)) hd rest))
+    ∙ sym
+    (productOf-halves m R (j + j) (j + j) (a * 2 ^ j + b) (c * 2 ^ j + d) h halves low
+    ∙ ap₂ bitXor (productOf-split m R j (j + j) a b h e hb)
+    (productOf-split m R j (j + j) c d (shiftedOf R h (j + j)) e hd
+    ∙ ap (λ (x : ℕ). bitXor (productOf m R (c * 2 ^ (j + (j + j))) (shiftedOf R h (j + j))) (productOf m R (d * 2 ^ (j + (j + j))) x))
+    (sym (shiftedOf-add R h (j + j) j))))
+  where
+    placed : (u v : ℕ) {n : ℕ} → u < 2 ^ j → suc m - j ≡ n → productOf m R (front m u j) v ≡ productOf m R (u * 2 ^ n) v
+    placed u v l r = ap₂ (λ (x y : ℕ). productOf m R (x * 2 ^ y) v) (mod-eq-of-lt l) r

@@ -1,6 +1,6 @@
 -- Several places at a time, for a product that goes by groups of coefficients. Main results: `shiftedOf-overflow` (times x, j times:
 -- what does not leave moves on, and what leaves comes back reduced), `productOf-group` (a group of coefficients in front, the rest
--- j places later), `productOf-step` (one step from the last group to the first) and `productOf-halves`. Assumes nothing.
+-- j places later), `productOf-step` (one step from the last group to the first), `productOf-halves` and `productOf-split`. Assumes nothing.
 use mathlib.Core.Path.{_≡_, sym, ap, ap₂, _∙_, subst}
 use Prim.Native.Nat.{ℕ, zero, suc, _+_, _-_, _*_, _/_, _%_, _^_, _<_, _≤_}
 use native.Mathlib.Nat.{zero-mul, one-mul, mul-one, add-mul, mul-assoc, mul-comm, add-comm, mul-div-cancel, mul-mod-left, mod-lt, lt-of-le-of-lt, div-self, sub-zero, le-of-lt, pow-suc, le-mul-of-pos-right}
@@ -121,6 +121,18 @@ module _ (m R : ℕ) where
       → productOf m R (a * 2 ^ d + b) h ≡ bitXor (productOf m R (a * 2 ^ d) h) (productOf m R (b * 2 ^ j) (shiftedOf R h j))
   productOf-halves j d a b h e l =
       productOf-group j d a b h e l ∙ ap (bitXor (productOf m R (a * 2 ^ d) h)) (sym (productOf-shifted m R (b * 2 ^ j) h j))
+
+  -- j coefficients p and the next j coefficients q, with d places after them
+  pub productOf-split : (j d p q h : ℕ) → j + (j + d) ≡ suc m → q < 2 ^ j
+      → productOf m R ((p * 2 ^ j + q) * 2 ^ d) h
+      ≡ bitXor (productOf m R (p * 2 ^ (j + d)) h) (productOf m R (q * 2 ^ (j + d)) (shiftedOf R h j))
+  productOf-split j d p q h e l =
+      ap (λ (x : ℕ). productOf m R x h)
+      (add-mul (p * 2 ^ j) q (2 ^ d)
+      ∙ ap (λ (x : ℕ). x + q * 2 ^ d) (mul-assoc p (2 ^ j) (2 ^ d) ∙ ap (λ (x : ℕ). p * x) (sym (pow-add 2 j d))))
+      ∙ productOf-halves j (j + d) p (q * 2 ^ d) h e (shl-lt j d l)
+      ∙ ap (λ (x : ℕ). bitXor (productOf m R (p * 2 ^ (j + d)) h) (productOf m R x (shiftedOf R h j)))
+      (mul-assoc q (2 ^ d) (2 ^ j) ∙ ap (λ (x : ℕ). q * x) (mul-comm (2 ^ d) (2 ^ j) ∙ sym (pow-add 2 j d)))
 
   -- from the last group to the first: with the k low digits of u done, the next j digits; j + k + d is the number of places
   pub productOf-step : (j k d u h : ℕ) → j + (k + d) ≡ suc m

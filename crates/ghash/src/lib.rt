@@ -5,7 +5,8 @@ ghost use lib.ListN.{length};
 ghost use Rattle.field.specs.Block.{valueOf, keyOf};
 ghost use Rattle.ghash.specs.Path.{Serves};
 ghost use Rattle.gf128.specs.Entries.{hashRefusal, hashBlock};
-ghost use Rattle.gf128.specs.Hash.{next, over, blocksOf, lengthBlock};
+ghost use Rattle.gf128.specs.Hash.{limit, next, over, blocksOf, lengthBlock, ghash};
+use fast::TABLES;
 use fast::fill_tables;
 use fast::product_fast;
 use field::block::Block;
@@ -24,20 +25,19 @@ pub enum Path {
 // The most bytes that A may have, and C.
 pub const LIMIT: usize = 1048576;
 
-// The tables that a call on this path multiplies with; the plain path leaves them empty.
-pub fn tables_for(path: Path, key: Key) -> [u64; 80]
-    ensures { λ r. ⌜ Serves path key r ⌝ }
+// Fills the tables that a call on this path multiplies with; the plain path needs none. They are lent, since a
+// returned array would be copied.
+pub fn put_tables(path: Path, key: Key, t: &mut [u64; TABLES])
+    ensures { λ _. ⌜ Serves path key (now (t .exit)) ⌝ }
 {
-    let mut t = [0u64; 80];
     match path {
         Path::Plain => {}
-        Path::Fast => fill_tables(&mut t, key),
+        Path::Fast => fill_tables(t, key),
     }
-    t
 }
 
 // One block: (Y xor X)·H.
-pub fn next(path: Path, key: Key, t: &[u64; 80], y: Block, x: Block) -> Block
+pub fn next(path: Path, key: Key, t: &[u64; TABLES], y: Block, x: Block) -> Block
     ensures { λ r. ⌜ (Serves path key (now (t .entry)) → valueOf r ≡ next (keyOf key) (valueOf y) (valueOf x)) ⌝ }
 {
     match path {
@@ -47,7 +47,7 @@ pub fn next(path: Path, key: Key, t: &[u64; 80], y: Block, x: Block) -> Block
 }
 
 // The partial hash after the blocks of s, padded with zeros, from y.
-pub fn over_blocks(path: Path, key: Key, t: &[u64; 80], y: Block, s: &[u8]) -> Block
+pub fn over_blocks(path: Path, key: Key, t: &[u64; TABLES], y: Block, s: &[u8]) -> Block
     ensures { λ r. ⌜ (Serves path key (now (t .entry)) → valueOf r ≡ over (keyOf key) (valueOf y) (blocksOf (now (s .entry)))) ⌝ }
 {
     let mut hash = y;
@@ -61,10 +61,22 @@ pub fn over_blocks(path: Path, key: Key, t: &[u64; 80], y: Block, s: &[u8]) -> B
 
 // The bit lengths of A and C, as one block.
 pub fn length_block(a: usize, c: usize) -> Block
-    requires { ⌜ (a ≤ 1048576) × (c ≤ 1048576) ⌝ }
+    requires { ⌜ (a ≤ limit) × (c ≤ limit) ⌝ }
     ensures { λ r. ⌜ valueOf r ≡ lengthBlock a c ⌝ }
 {
     Block(8 * a as u64, 8 * c as u64)
+}
+
+// The hash of an A and a C within the limit.
+fn hash_of(path: Path, key: Key, a: &[u8], c: &[u8]) -> Block
+    requires { ⌜ (length (now a) ≤ limit) × (length (now c) ≤ limit) ⌝ }
+    ensures { λ r. ⌜ valueOf r ≡ ghash (keyOf key) (now (a .entry)) (now (c .entry)) ⌝ }
+{
+    let mut t = [0u64; TABLES];
+    put_tables(path, key, &mut t);
+    let after_a = over_blocks(path, key, &t, Block::ZERO, a);
+    let after_c = over_blocks(path, key, &t, after_a, c);
+    next(path, key, &t, after_c, length_block(a.len(), c.len()))
 }
 
 fn refused(number: u32) -> Answer
@@ -89,11 +101,7 @@ fn ghash_on(path: Path, key: &[u8], a: &[u8], c: &[u8]) -> Answer
     if LIMIT < c.len() {
         return refused(11);
     }
-    let h = key_at_start(key);
-    let t = tables_for(path, h);
-    let after_a = over_blocks(path, h, &t, Block::ZERO, a);
-    let after_c = over_blocks(path, h, &t, after_a, c);
-    let hash = next(path, h, &t, after_c, length_block(a.len(), c.len()));
+    let hash = hash_of(path, key_at_start(key), a, c);
     Answer {
         number: 0,
         block: hash,

@@ -8,6 +8,7 @@ ghost use Rattle.field.specs.Block.{valueOf, keyOf};
 ghost use Rattle.ghash.specs.Path.{Serves};
 ghost use Rattle.running.specs.State.{view, held, partOf, opened, Feeds, Finishes};
 ghost use Rattle.gf128.specs.Running.{fresh, allZero, openBytes, malformed, push, pushed, closed, startedC, feedARefusal, feedCRefusal, finishRefusal, afterFeedA, afterFeedC, afterFinish, finishBlock};
+use fast::TABLES;
 use field::block::Block;
 use field::block::Key;
 use field::block::block_at;
@@ -17,7 +18,7 @@ use ghash::Path;
 use ghash::length_block;
 use ghash::next;
 use ghash::over_blocks;
-use ghash::tables_for;
+use ghash::put_tables;
 
 // Y, the open block, the bytes of A and of C so far, and the phase: 0 takes A, 1 takes C, 2 is finished.
 #[repr(C)]
@@ -122,7 +123,7 @@ fn malformed(state: Running) -> bool
 }
 
 // One byte at a place of the open block; a full block is hashed.
-fn push(path: Path, key: Key, t: &[u64; 80], place: usize, p: Part, b: u8) -> Part
+fn push(path: Path, key: Key, t: &[u64; TABLES], place: usize, p: Part, b: u8) -> Part
     requires { ⌜ place < 16 ⌝ }
     ensures { λ r. ⌜ (Serves path key (now (t .entry)) → partOf r ≡ push (keyOf key) place (partOf p) b) ⌝ }
 {
@@ -139,7 +140,7 @@ fn push(path: Path, key: Key, t: &[u64; 80], place: usize, p: Part, b: u8) -> Pa
 }
 
 // A run of bytes, the first at a place of the open block.
-fn push_run(path: Path, key: Key, t: &[u64; 80], place: usize, p: Part, s: &[u8]) -> Part
+fn push_run(path: Path, key: Key, t: &[u64; TABLES], place: usize, p: Part, s: &[u8]) -> Part
     requires { ⌜ place < 16 ⌝ }
     ensures { λ r. ⌜ (Serves path key (now (t .entry)) → partOf r ≡ pushed (keyOf key) place (partOf p) (now (s .entry))) ⌝ }
 {
@@ -155,7 +156,7 @@ fn push_run(path: Path, key: Key, t: &[u64; 80], place: usize, p: Part, s: &[u8]
 }
 
 // Bytes from a block's start, where no byte is open: whole blocks straight from the slice, then the rest.
-fn push_from_start(path: Path, key: Key, t: &[u64; 80], y: Block, s: &[u8]) -> Part
+fn push_from_start(path: Path, key: Key, t: &[u64; TABLES], y: Block, s: &[u8]) -> Part
     ensures { λ r. ⌜ (Serves path key (now (t .entry)) → partOf r ≡ pushed (keyOf key) 0 (opened (valueOf y)) (now (s .entry))) ⌝ }
 {
     let whole = s.len() / 16 * 16;
@@ -167,7 +168,7 @@ fn push_from_start(path: Path, key: Key, t: &[u64; 80], y: Block, s: &[u8]) -> P
 }
 
 // A piece after n bytes of its part: first up to the end of the open block.
-fn absorb(path: Path, key: Key, t: &[u64; 80], n: usize, p: Part, s: &[u8]) -> Part
+fn absorb(path: Path, key: Key, t: &[u64; TABLES], n: usize, p: Part, s: &[u8]) -> Part
     requires { ⌜ allZero (drop (n % 16) (p .bytes)) ≡ true ⌝ }
     ensures { λ r. ⌜ (Serves path key (now (t .entry)) → partOf r ≡ pushed (keyOf key) n (partOf p) (now (s .entry))) ⌝ }
 {
@@ -182,7 +183,7 @@ fn absorb(path: Path, key: Key, t: &[u64; 80], n: usize, p: Part, s: &[u8]) -> P
 }
 
 // The end of A or of C, of n bytes: an open block is padded with zeros and hashed.
-fn close(path: Path, key: Key, t: &[u64; 80], n: usize, p: Part) -> Part
+fn close(path: Path, key: Key, t: &[u64; TABLES], n: usize, p: Part) -> Part
     ensures { λ r. ⌜ (Serves path key (now (t .entry)) → partOf r ≡ closed (keyOf key) n (partOf p)) ⌝ }
 {
     if n % 16 == 0 {
@@ -205,7 +206,7 @@ fn part_of(state: Running) -> Part
 }
 
 // The part that C goes on with: the first C ends A, even one of length 0.
-fn started_c(path: Path, key: Key, t: &[u64; 80], state: Running) -> Part
+fn started_c(path: Path, key: Key, t: &[u64; TABLES], state: Running) -> Part
     ensures { λ r. ⌜ (Serves path key (now (t .entry)) → partOf r ≡ startedC (keyOf key) (view state)) ⌝ }
 {
     if state.phase == 0 {
@@ -253,7 +254,8 @@ fn fed_a_on(path: Path, state: Running, key: &[u8], piece: &[u8]) -> Fed
         return feed_refused(11, state);
     }
     let h = key_at_start(key);
-    let t = tables_for(path, h);
+    let mut t = [0u64; TABLES];
+    put_tables(path, h, &mut t);
     let p = absorb(path, h, &t, n, part_of(state), piece);
     let y = p.y;
     let bytes = p.bytes;
@@ -301,7 +303,8 @@ fn fed_c_on(path: Path, state: Running, key: &[u8], piece: &[u8]) -> Fed
         return feed_refused(11, state);
     }
     let h = key_at_start(key);
-    let t = tables_for(path, h);
+    let mut t = [0u64; TABLES];
+    put_tables(path, h, &mut t);
     let p = absorb(path, h, &t, n, started_c(path, h, &t, state), piece);
     let y = p.y;
     let bytes = p.bytes;
@@ -358,7 +361,8 @@ fn finished_on(path: Path, state: Running, key: &[u8]) -> Finished
         };
     }
     let h = key_at_start(key);
-    let t = tables_for(path, h);
+    let mut t = [0u64; TABLES];
+    put_tables(path, h, &mut t);
     let p = close(path, h, &t, current_count(state) as usize, part_of(state));
     let y = p.y;
     let lengths = length_block(state.a_count as usize, state.c_count as usize);

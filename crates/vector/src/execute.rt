@@ -19,6 +19,7 @@ use element::element::element_at;
 use element::element::mask_bit;
 use element::element::read_le;
 use element::element::write_le;
+use fast::TABLES;
 use fast::fill_tables;
 use fast::product_fast;
 use field::block::Block;
@@ -149,7 +150,7 @@ fn multiplicand_of(m: Multiplicand, f: Fields, s: Settings, i: u32, file: &[u8])
 }
 
 // Group i with the key whose tables are given.
-fn vs_step(t: &[u64; 80], m: Multiplicand, f: Fields, s: Settings, i: u32, file: &mut [u8])
+fn vs_step(t: &[u64; TABLES], m: Multiplicand, f: Fields, s: Settings, i: u32, file: &mut [u8])
     ensures { λ _. ⌜ ((h : ℕ) → TableOf h (now (t .entry)) → now (file .exit) ≡ vsStep h m f s i (now (file .entry))) ⌝ }
 {
     let z = product_fast(t, multiplicand_of(m, f, s, i, file));
@@ -157,7 +158,7 @@ fn vs_step(t: &[u64; 80], m: Multiplicand, f: Fields, s: Settings, i: u32, file:
 }
 
 // Group i with the key in group i of vs2, whose tables are filled here.
-fn vv_step(t: &mut [u64; 80], m: Multiplicand, f: Fields, s: Settings, i: u32, file: &mut [u8])
+fn vv_step(t: &mut [u64; TABLES], m: Multiplicand, f: Fields, s: Settings, i: u32, file: &mut [u8])
     ensures { λ _. ⌜ now (file .exit) ≡ vvStep m f s i (now (file .entry)) ⌝ }
 {
     let h = group(s, f.vs2, i, file);
@@ -169,7 +170,7 @@ fn vv_step(t: &mut [u64; 80], m: Multiplicand, f: Fields, s: Settings, i: u32, f
 fn ghash_vv(m: Multiplicand, f: Fields, s: Settings, file: &mut [u8])
     ensures { λ _. ⌜ now (file .exit) ≡ ghashVv m f s (now (file .entry)) ⌝ }
 {
-    let mut t = [0u64; 80];
+    let mut t = [0u64; TABLES];
     let to = s.vl / 4;
     let mut i = s.vstart / 4;
     while i < to {
@@ -183,7 +184,7 @@ fn ghash_vs(m: Multiplicand, f: Fields, s: Settings, file: &mut [u8])
     ensures { λ _. ⌜ now (file .exit) ≡ ghashVs m f s (now (file .entry)) ⌝ }
 {
     let h = group(s, f.vs2, 0, file);
-    let mut t = [0u64; 80];
+    let mut t = [0u64; TABLES];
     fill_tables(&mut t, Key(h.0, h.1));
     let to = s.vl / 4;
     let mut i = s.vstart / 4;

@@ -1,44 +1,79 @@
--- `product_fast` is the product. The loop's invariant: after i rounds the chain has done 16 · i coefficients of each half,
--- from the last on, and the halves are without them. Assumes nothing.
+-- `product_fast` is the product. The loop's invariant: after i rounds the chain has done 4 · i coefficients of each quarter,
+-- from the last on, the quarters are without them, and the entries of the next four are read. Assumes nothing.
 use mathlib.Core.Path.{_≡_, refl, sym, ap, ap₂, _∙_}
-use Prim.Native.Nat.{ℕ, _+_, _-_, _*_, _/_, _%_, _^_, _≤_}
-use native.Mathlib.Nat.{div-one}
+use Prim.Native.Nat.{ℕ, _+_, _-_, _*_, _/_, _%_, _^_, _≤_, _<_}
+use native.Mathlib.Nat.{div-one, mod-lt}
 use native.Mathlib.Omega.{arith}
-use lib.Pow.{shr-shr}
+use lib.Bits.{bitXor}
+use lib.Pow.{pow-pos, shr-lt, shr-shr, split}
 use borrow.Author.Needs.{needs}
-use Rattle.gf128.specs.Field.{reduction, shifted}
-use Rattle.gf128.proofs.Chain.{stepOf, roundOf, chain, chain-start, chain-round, chain-end}
+use Rattle.gf128.specs.Field.{reduction, shiftedOf, shifted, product}
+use Rattle.gf128.proofs.Chain.{chain, chain-start, chain-step, chain-end}
 use Rattle.field.specs.Block.{valueOf}
-use Rattle.fast.specs.Table.{TableOf}
+use Rattle.fast.specs.Table.{TableOf, nibble, entriesOf}
 use Rattle.fast.proofs.product_fast.Statement.{statement}
 use Rattle.fast.proofs.product_fast.Tie as tie
 
+-- the chain of the four quarters, with the keys of the four tables
+abbrev chainOf : ℕ → ℕ → ℕ → ℕ → ℕ → ℕ → ℕ
+chainOf h = chain 127 reduction (shifted h 0) (shifted h 32) (shifted h 64) (shifted h 96)
+
 abbrev Inv-loop : tie.InvT-loop
-Inv-loop t z₀ high₀ low₀ i₀ z high low i =
-    (i ≤ 4) × (high ≡ high₀ / 2 ^ (16 * i)) × (low ≡ low₀ / 2 ^ (16 * i))
-    × ((h : ℕ) → TableOf h t → valueOf z ≡ chain 127 reduction h (shifted h 64) high₀ low₀ (16 * i))
+Inv-loop t high low a₀ b₀ c₀ d₀ z₀ e₀ i₀ a b c d z e i =
+    (i ≤ 7) × (a ≡ a₀ / 2 ^ (4 * i)) × (b ≡ b₀ / 2 ^ (4 * i)) × (c ≡ c₀ / 2 ^ (4 * i)) × (d ≡ d₀ / 2 ^ (4 * i))
+    × ((h : ℕ) → TableOf h t → valueOf z ≡ chainOf h a₀ b₀ c₀ d₀ (4 * i))
+    × ((h : ℕ) → TableOf h t → valueOf e ≡ entriesOf h (a % 2 ^ 4) (b % 2 ^ 4) (c % 2 ^ 4) (d % 2 ^ 4))
 
 abbrev μ-loop : tie.MeasureT-loop
-μ-loop t z₀ high₀ low₀ i₀ z high low i = 4 - i
+μ-loop t high low a₀ b₀ c₀ d₀ z₀ e₀ i₀ a b c d z e i = 7 - i
 
--- sixteen digits leave a half
-left : (u i : ℕ) {v n : ℕ} → v ≡ u / 2 ^ (16 * i) → 16 * i + 16 ≡ n → v / 2 ^ 16 ≡ u / 2 ^ n
-left u i e next = ap (λ (x : ℕ). x / 2 ^ 16) e ∙ shr-shr u (16 * i) 16 ∙ ap (λ (x : ℕ). u / 2 ^ x) next
+-- four digits leave a quarter
+left : (u i : ℕ) {v n : ℕ} → v ≡ u / 2 ^ (4 * i) → 4 * i + 4 ≡ n → v / 2 ^ 4 ≡ u / 2 ^ n
+left u i e next = ap (λ (x : ℕ). x / 2 ^ 4) e ∙ shr-shr u (4 * i) 4 ∙ ap (λ (x : ℕ). u / 2 ^ x) next
+
+-- one step of the chain
+module _ (h a₀ b₀ c₀ d₀ a b c d z e i : ℕ) (ea : a ≡ a₀ / 2 ^ (4 * i)) (eb : b ≡ b₀ / 2 ^ (4 * i)) (ec : c ≡ c₀ / 2 ^ (4 * i)) (ed : d ≡ d₀ / 2 ^ (4 * i))
+    (ez : z ≡ chainOf h a₀ b₀ c₀ d₀ (4 * i)) (ee : e ≡ entriesOf h (a % 2 ^ 4) (b % 2 ^ 4) (c % 2 ^ 4) (d % 2 ^ 4)) (l : 4 * i + 4 ≤ 128) where
+  stepped : bitXor (shifted z 4) e ≡ chainOf h a₀ b₀ c₀ d₀ (4 * i + 4)
+  stepped =
+      ap₂ (λ (x y : ℕ). bitXor (shifted x 4) y) ez
+      (ee
+      ∙ ap₂ bitXor
+      (ap₂ (λ (x y : ℕ). bitXor (product (nibble (x % 2 ^ 4)) (shifted h 0)) (product (nibble (y % 2 ^ 4)) (shifted h 32))) ea eb)
+      (ap₂ (λ (x y : ℕ). bitXor (product (nibble (x % 2 ^ 4)) (shifted h 64)) (product (nibble (y % 2 ^ 4)) (shifted h 96))) ec ed))
+      ∙ sym (chain-step 127 reduction (shifted h 0) (shifted h 32) (shifted h 64) (shifted h 96) a₀ b₀ c₀ d₀ (4 * i) l)
+
+-- all the coefficients are done
+ended : (h high low : ℕ) → high < 2 ^ 64 → low < 2 ^ 64
+    → chainOf h (high / 2 ^ 32) (high % 2 ^ 32) (low / 2 ^ 32) (low % 2 ^ 32) 32 ≡ product (high * 2 ^ 64 + low) h
+unfolding shiftedOf
+ended h high low lh ll =
+    chain-end 127 reduction h 32 (high / 2 ^ 32) (high % 2 ^ 32) (low / 2 ^ 32) (low % 2 ^ 32) refl
+    (shr-lt 32 32 lh) (mod-lt high (pow-pos 32)) (shr-lt 32 32 ll) (mod-lt low (pow-pos 32))
+    ∙ ap₂ (λ (x y : ℕ). product (x * 2 ^ 64 + y) h) (split high 32) (split low 32)
+
+entries-requires : tie.Need-entries-requires Inv-loop μ-loop
+entries-requires c κs = omega arith
 
 loop-holds : tie.Need-loop-holds Inv-loop μ-loop
-loop-holds c = (omega arith, sym (div-one _), sym (div-one _), λ h table. sym (chain-start 127 reduction h (shifted h 64) _ _))
+loop-holds c = (
+  omega arith,
+  sym (div-one _),
+  sym (div-one _),
+  sym (div-one _),
+  sym (div-one _),
+  λ h table. sym (chain-start 127 reduction (shifted h 0) (shifted h 32) (shifted h 64) (shifted h 96) _ _ _ _),
+  c .entries .ensures,
+)
 
-step-requires : tie.Need-step-requires Inv-loop μ-loop
-step-requires c κs = omega arith
+times-x4-requires : tie.Need-times-x4-requires Inv-loop μ-loop
+times-x4-requires c κs = search needs
 
-step-requires-2 : tie.Need-step-requires-2 Inv-loop μ-loop
-step-requires-2 c κs = omega arith
+xor-requires : tie.Need-xor-requires Inv-loop μ-loop
+xor-requires c κs = search needs
 
-step-requires-3 : tie.Need-step-requires-3 Inv-loop μ-loop
-step-requires-3 c κs = omega arith
-
-step-requires-4 : tie.Need-step-requires-4 Inv-loop μ-loop
-step-requires-4 c κs = omega arith
+entries-requires-2 : tie.Need-entries-requires-2 Inv-loop μ-loop
+entries-requires-2 c κs = omega arith
 
 add-i : tie.Need-add-i Inv-loop μ-loop
 add-i c = omega arith
@@ -48,38 +83,41 @@ loop-less c = omega arith
 
 loop-again : tie.Need-loop-again Inv-loop μ-loop
 loop-again c =
-    let at-loop = c .before .before .before .before .before in
-    let u = at-loop .before .args .u in
+    let at-loop = c .before .before .before .before in
     let i = at-loop .loop .i in
-    let high = at-loop .loop .high in
-    let low = at-loop .loop .low in
     let inv = at-loop .loop .inv in
-    let next : 16 * i + 16 ≡ 16 * (i + 1) = omega arith in (
+    let next : 4 * i + 4 ≡ 4 * (i + 1) = omega arith in (
       omega arith,
-      left (u .0) i inv.1 next,
-      left (u .1) i inv.2 next,
+      left _ i (inv .1) next,
+      left _ i (inv .2) next,
+      left _ i (inv .3) next,
+      left _ i (inv .4) next,
       λ h table.
-          let step = stepOf 127 reduction h (shifted h 64) in
-          c .step4 .ensures h table
-          ∙ ap (λ (z : ℕ). step z (high / 2 ^ 12 % 2 ^ 4) (low / 2 ^ 12 % 2 ^ 4))
-          (c .before .step3 .ensures h table
-          ∙ ap (λ (z : ℕ). step z (high / 2 ^ 8 % 2 ^ 4) (low / 2 ^ 8 % 2 ^ 4))
-          (c .before .before .step2 .ensures h table
-          ∙ ap (λ (z : ℕ). step z (high / 2 ^ 4 % 2 ^ 4) (low / 2 ^ 4 % 2 ^ 4))
-          (c .before .before .before .step .ensures h table
-          ∙ ap (λ (z : ℕ). step z (high % 2 ^ 4) (low % 2 ^ 4)) (inv.3 h table))))
-          ∙ ap₂ (roundOf 127 reduction h (shifted h 64) (chain 127 reduction h (shifted h 64) (u .0) (u .1) (16 * i))) inv.1 inv.2
-          ∙ sym (chain-round 127 reduction h (shifted h 64) (u .0) (u .1) (16 * i) (omega arith))
-          ∙ ap (chain 127 reduction h (shifted h 64) (u .0) (u .1)) next,
+          c .before .xor .ensures
+          ∙ ap (λ (x : ℕ). bitXor x (valueOf (at-loop .loop .e))) (c .before .before .times-x4 .ensures (table .whole .reductions))
+          ∙ stepped h _ _ _ _ _ _ _ _ _ _ i (inv .1) (inv .2) (inv .3) (inv .4) (inv .5 h table) (inv .6 h table) (omega arith)
+          ∙ ap (chainOf h _ _ _ _) next,
+      c .entries2 .ensures,
     )
+
+times-x4-requires-2 : tie.Need-times-x4-requires-2 Inv-loop μ-loop
+times-x4-requires-2 c κs = search needs
+
+xor-requires-2 : tie.Need-xor-requires-2 Inv-loop μ-loop
+xor-requires-2 c κs = search needs
 
 returns : tie.Need-returns Inv-loop μ-loop
 returns c h table =
-    let u = c .before .before .args .u in
-    let done : 16 * c .before .loop .i ≡ 64 = omega arith in
-    c .before .loop .inv .3 h table
-    ∙ ap (chain 127 reduction h (shifted h 64) (u .0) (u .1)) done
-    ∙ chain-end 127 reduction h 64 (u .0) (u .1) refl (search needs) (search needs)
+    let at-loop = c .before .before .before in
+    let i = at-loop .loop .i in
+    let inv = at-loop .loop .inv in
+    let u = at-loop .before .before .args .u in
+    let done : 4 * i + 4 ≡ 32 = omega arith in
+    c .xor2 .ensures
+    ∙ ap (λ (x : ℕ). bitXor x (valueOf (at-loop .loop .e))) (c .before .times-x42 .ensures (table .whole .reductions))
+    ∙ stepped h _ _ _ _ _ _ _ _ _ _ i (inv .1) (inv .2) (inv .3) (inv .4) (inv .5 h table) (inv .6 h table) (omega arith)
+    ∙ ap (chainOf h _ _ _ _) done
+    ∙ ended h (u .0) (u .1) (search needs) (search needs)
 
 pub product-fast-spec : {M : Type 1} → statement M
 product-fast-spec =
@@ -87,12 +125,14 @@ product-fast-spec =
     (tie.spec
     Inv-loop
     μ-loop
+    entries-requires
     loop-holds
-    step-requires
-    step-requires-2
-    step-requires-3
-    step-requires-4
+    times-x4-requires
+    xor-requires
+    entries-requires-2
     add-i
     loop-less
     loop-again
+    times-x4-requires-2
+    xor-requires-2
     returns)

@@ -1,22 +1,22 @@
 -- `put_reductions` copies the sixteen reductions, whose rule is one test over the whole table.
--- The loop's invariant: the rule holds of the constants, and of the places passed; what stands before the reductions stays.
+-- The loop's invariant: the rule holds of the constants, and the places passed hold them; what stands before the reductions stays.
 -- Assumes nothing.
 use mathlib.Core.Path.{_≡_, refl, ap, _∙_}
-use Prim.Native.Nat.{ℕ, _+_, _-_, _*_, _^_, _≤_, _<_}
+use Prim.Native.Nat.{ℕ, _+_, _-_, _*_, _%_, _^_, _≤_, _<_}
 use native.Mathlib.Omega.{arith}
 use lib.ListN.{length, getD}
 use lib.Seq.{getD-set-same, getD-set-other}
 use borrow.Author.Count.{below-none, below-more}
 use borrow.Author.Needs.{needs}
-use Rattle.gf128.specs.Field.{timesXOf, shiftedOf, shifted}
+use Rattle.gf128.specs.Field.{timesXOf, shiftedOf}
 use Rattle.fast.proofs.Multiples.{Reduced, reduced}
 use Rattle.fast.proofs.put_reductions.Statement.{statement}
 use Rattle.fast.proofs.put_reductions.Tie as tie
 
 abbrev Inv-loop : tie.InvT-loop
 Inv-loop t₀ r n₀ t n =
-    (n ≤ 16) × (length t ≡ 80) × Reduced r × ((k : ℕ) → k < n → getD t (64 + k) 0 * 2 ^ 64 ≡ shifted k 4)
-    × ((k : ℕ) → k < 64 → getD t k 0 ≡ getD t₀ k 0)
+    (n ≤ 16) × (length t ≡ 144) × Reduced r × ((k : ℕ) → k < n → getD t (128 + k) 0 ≡ getD r k 0)
+    × ((k : ℕ) → k < 128 → getD t k 0 ≡ getD t₀ k 0)
 
 abbrev μ-loop : tie.MeasureT-loop
 μ-loop t₀ r n₀ t n = 16 - n
@@ -54,9 +54,8 @@ loop-again c =
       search needs,
       search needs,
       inv .2,
-      below-more _ _ (λ k h. ap (λ (x : ℕ). x * 2 ^ 64) (getD-set-other t (64 + n) (64 + k) _ 0 (omega arith)) ∙ inv .3 k h)
-          (ap (λ (x : ℕ). x * 2 ^ 64) (getD-set-same t (64 + n) _ 0 (omega arith)) ∙ inv .2 .rule n (omega arith)),
-      λ k h. getD-set-other t (64 + n) k _ 0 (omega arith) ∙ inv .4 k h,
+      below-more _ _ (λ k h. getD-set-other t (128 + n) (128 + k) _ 0 (omega arith) ∙ inv .3 k h) (getD-set-same t (128 + n) _ 0 (omega arith)),
+      λ k h. getD-set-other t (128 + n) k _ 0 (omega arith) ∙ inv .4 k h,
     )
 
 same-length : tie.Need-same-length Inv-loop μ-loop
@@ -65,7 +64,13 @@ same-length c = search needs
 returns : tie.Need-returns Inv-loop μ-loop
 returns c =
     let inv = c .before .loop .inv in
-    record { reductions = record { overflow = λ n h. inv .3 n (omega arith) }; below = inv .4 }
+    record {
+      reductions = record {
+        overflow = λ n h. ap (λ (x : ℕ). x * 2 ^ 64) (inv .3 n (omega arith)) ∙ inv .2 .rule n h;
+        first = λ n h. ap (λ (x : ℕ). x % 2 ^ 32) (inv .3 n (omega arith)) ∙ inv .2 .first n h;
+      };
+      below = inv .4;
+    }
 
 pub put-reductions-spec : {M : Type 1} → statement M
 put-reductions-spec =

@@ -73,19 +73,19 @@ returns-3 c =
 key-at-start-requires : tie.Need-key-at-start-requires
 key-at-start-requires c κs = search needs
 
-tables-for-requires : tie.Need-tables-for-requires
-tables-for-requires c κs = search needs
+put-tables-requires : tie.Need-put-tables-requires
+put-tables-requires c κs = search needs
 
 part-of-requires : tie.Need-part-of-requires
 part-of-requires c κs = search needs
 
 absorb-requires : tie.Need-absorb-requires
 absorb-requires c κs =
-    let a = c .before .before .before .before .before .before .before .before .before .before .before .before .args in
+    let a = c .before .before .before .before .before .before .before .before .before .before .before .before .before .args in
     let key = a .key .now in
     let s = view (a .state) in
-    let o = open-call key s (sym (c .before .before .before .before .before .before .before .before .before .call-refusal .ensures) ∙ c .before .before .before .before .before .before .before .before .if1 .left) in
-    rw (ap (λ (p : Part). p .block) (c .part-of .ensures)) (rw (eq-eqb (s .phase) 0 (c .before .before .before .before .before .before .if2 .left)) at (o .well .zeros))
+    let o = open-call key s (sym (c .before .before .before .before .before .before .before .before .before .before .call-refusal .ensures) ∙ c .before .before .before .before .before .before .before .before .before .if1 .left) in
+    rw (ap (λ (p : Part). p .block) (c .part-of .ensures)) (rw (eq-eqb (s .phase) 0 (c .before .before .before .before .before .before .before .if2 .left)) at (o .well .zeros))
 
 cast-a-count : tie.Need-cast-a-count
 cast-a-count c = search needs
@@ -93,18 +93,18 @@ cast-a-count c = search needs
 returns-4 : tie.Need-returns-4
 unfolding fedA
 returns-4 c =
-    let a = c .before .before .before .before .before .before .before .before .before .before .before .before .before .before .before .args in
+    let a = c .before .before .before .before .before .before .before .before .before .before .before .before .before .before .before .before .args in
     let key = a .key .now in
     let piece = a .piece .now in
     let s = view (a .state) in
-    let o = open-call key s (sym (c .before .before .before .before .before .before .before .before .before .before .before .before .call-refusal .ensures) ∙ c .before .before .before .before .before .before .before .before .before .before .before .if1 .left) in
-    let n = takes-a key (o .key-fits) s (o .well) piece (c .before .before .before .before .before .before .before .before .before .if2 .left) (c .before .before .before .before .before .before .before .if3 .left) in
-    let h : ℕ = keyOf (c .before .before .before .before .before .before .key-at-start .result) in
+    let o = open-call key s (sym (c .before .before .before .before .before .before .before .before .before .before .before .before .before .call-refusal .ensures) ∙ c .before .before .before .before .before .before .before .before .before .before .before .before .if1 .left) in
+    let n = takes-a key (o .key-fits) s (o .well) piece (c .before .before .before .before .before .before .before .before .before .before .if2 .left) (c .before .before .before .before .before .before .before .before .if3 .left) in
+    let h : ℕ = keyOf (c .before .before .before .before .before .before .before .key-at-start .result) in
     feed-taken (feedARefusal key s piece) (fedA (blockAt key 0) s piece) (a .state) _ n
     (ap (λ (p : Part). state p (s .countA + length piece) (s .countC) 0)
-    (c .before .before .absorb .ensures (c .before .before .before .before .before .tables-for .ensures)
+    (c .before .before .absorb .ensures (c .before .before .before .before .before .put-tables .ensures)
     ∙ ap (λ (p : Part). pushed h (s .countA) p piece) (c .before .before .before .part-of .ensures)
-    ∙ ap (λ (x : ℕ). pushed x (s .countA) (held s) piece) (c .before .before .before .before .before .before .key-at-start .ensures)))
+    ∙ ap (λ (x : ℕ). pushed x (s .countA) (held s) piece) (c .before .before .before .before .before .before .before .key-at-start .ensures)))
 
 pub fed-a-on-spec : {M : Type 1} → statement M
 fed-a-on-spec =
@@ -120,7 +120,7 @@ fed-a-on-spec =
     feed-refused-requires-3
     returns-3
     key-at-start-requires
-    tables-for-requires
+    put-tables-requires
     part-of-requires
     absorb-requires
     cast-a-count

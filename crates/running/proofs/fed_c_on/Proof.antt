@@ -60,20 +60,20 @@ returns-2 c =
 key-at-start-requires : tie.Need-key-at-start-requires
 key-at-start-requires c κs = search needs
 
-tables-for-requires : tie.Need-tables-for-requires
-tables-for-requires c κs = search needs
+put-tables-requires : tie.Need-put-tables-requires
+put-tables-requires c κs = search needs
 
 started-c-requires : tie.Need-started-c-requires
 started-c-requires c κs = search needs
 
 absorb-requires : tie.Need-absorb-requires
 absorb-requires c κs =
-    let a = c .before .before .before .before .before .before .before .before .before .before .before .args in
+    let a = c .before .before .before .before .before .before .before .before .before .before .before .before .args in
     let key = a .key .now in
     let s = view (a .state) in
-    let o = open-call key s (sym (c .before .before .before .before .before .before .before .before .call-refusal .ensures) ∙ c .before .before .before .before .before .before .before .if1 .left) in
-    let p = c .started-c .ensures (c .before .before .before .tables-for .ensures) in
-    rw (ap (λ (x : Part). x .block) p) (started-zeros (keyOf (c .before .before .before .before .key-at-start .result)) s (o .well) (o .unfinished))
+    let o = open-call key s (sym (c .before .before .before .before .before .before .before .before .before .call-refusal .ensures) ∙ c .before .before .before .before .before .before .before .before .if1 .left) in
+    let p = c .started-c .ensures (c .before .before .before .put-tables .ensures) in
+    rw (ap (λ (x : Part). x .block) p) (started-zeros (keyOf (c .before .before .before .before .before .key-at-start .result)) s (o .well) (o .unfinished))
 
 cast-c-count : tie.Need-cast-c-count
 cast-c-count c = search needs
@@ -81,19 +81,19 @@ cast-c-count c = search needs
 returns-3 : tie.Need-returns-3
 unfolding fedC
 returns-3 c =
-    let a = c .before .before .before .before .before .before .before .before .before .before .before .before .before .before .args in
+    let a = c .before .before .before .before .before .before .before .before .before .before .before .before .before .before .before .args in
     let key = a .key .now in
     let piece = a .piece .now in
     let s = view (a .state) in
-    let o = open-call key s (sym (c .before .before .before .before .before .before .before .before .before .before .before .call-refusal .ensures) ∙ c .before .before .before .before .before .before .before .before .before .before .if1 .left) in
-    let n = takes-c key (o .key-fits) s (o .well) piece (o .unfinished) (c .before .before .before .before .before .before .before .before .if2 .left) in
-    let w = c .before .before .before .before .before .before .tables-for .ensures in
-    let h : ℕ = keyOf (c .before .before .before .before .before .before .before .key-at-start .result) in
+    let o = open-call key s (sym (c .before .before .before .before .before .before .before .before .before .before .before .before .call-refusal .ensures) ∙ c .before .before .before .before .before .before .before .before .before .before .before .if1 .left) in
+    let n = takes-c key (o .key-fits) s (o .well) piece (o .unfinished) (c .before .before .before .before .before .before .before .before .before .if2 .left) in
+    let w = c .before .before .before .before .before .before .put-tables .ensures in
+    let h : ℕ = keyOf (c .before .before .before .before .before .before .before .before .key-at-start .result) in
     feed-taken (feedCRefusal key s piece) (fedC (blockAt key 0) s piece) (a .state) _ n
     (ap (λ (p : Part). state p (s .countA) (s .countC + length piece) 1)
     (c .before .before .absorb .ensures w
     ∙ ap (λ (p : Part). pushed h (s .countC) p piece) (c .before .before .before .started-c .ensures w)
-    ∙ ap (λ (x : ℕ). pushed x (s .countC) (startedC x s) piece) (c .before .before .before .before .before .before .before .key-at-start .ensures)))
+    ∙ ap (λ (x : ℕ). pushed x (s .countC) (startedC x s) piece) (c .before .before .before .before .before .before .before .before .key-at-start .ensures)))
 
 pub fed-c-on-spec : {M : Type 1} → statement M
 fed-c-on-spec =
@@ -107,7 +107,7 @@ fed-c-on-spec =
     feed-refused-requires-2
     returns-2
     key-at-start-requires
-    tables-for-requires
+    put-tables-requires
     started-c-requires
     absorb-requires
     cast-c-count

@@ -30,8 +30,8 @@ returns c =
 key-at-start-requires : tie.Need-key-at-start-requires
 key-at-start-requires c κs = search needs
 
-tables-for-requires : tie.Need-tables-for-requires
-tables-for-requires c κs = search needs
+put-tables-requires : tie.Need-put-tables-requires
+put-tables-requires c κs = search needs
 
 current-count-requires : tie.Need-current-count-requires
 current-count-requires c κs = search needs
@@ -53,10 +53,10 @@ cast-length-block-2 c = search needs
 
 length-block-requires : tie.Need-length-block-requires
 length-block-requires c κs =
-    let a = c .before .before .before .before .before .before .before .before .before .before .before .before .args in
+    let a = c .before .before .before .before .before .before .before .before .before .before .before .before .before .args in
     let key = a .key .now in
     let s = view (a .state) in
-    let o = open-call key s (sym (c .before .before .before .before .before .before .before .before .before .before .call-refusal .ensures) ∙ c .before .before .before .before .before .before .before .before .before .if1 .left) in
+    let o = open-call key s (sym (c .before .before .before .before .before .before .before .before .before .before .before .call-refusal .ensures) ∙ c .before .before .before .before .before .before .before .before .before .before .if1 .left) in
     (o .well .a-in, o .well .c-in)
 
 next-requires : tie.Need-next-requires
@@ -65,20 +65,20 @@ next-requires c κs = search needs
 returns-2 : tie.Need-returns-2
 unfolding finished
 returns-2 c =
-    let a = c .before .before .before .before .before .before .before .before .before .before .before .before .before .before .before .args in
+    let a = c .before .before .before .before .before .before .before .before .before .before .before .before .before .before .before .before .args in
     let key = a .key .now in
     let s = view (a .state) in
-    let o = open-call key s (sym (c .before .before .before .before .before .before .before .before .before .before .before .before .before .call-refusal .ensures) ∙ c .before .before .before .before .before .before .before .before .before .before .before .before .if1 .left) in
+    let o = open-call key s (sym (c .before .before .before .before .before .before .before .before .before .before .before .before .before .before .call-refusal .ensures) ∙ c .before .before .before .before .before .before .before .before .before .before .before .before .before .if1 .left) in
     let n = takes-end key (o .key-fits) s (o .well) (o .unfinished) in
-    let w = c .before .before .before .before .before .before .before .before .before .before .tables-for .ensures in
-    let h : ℕ = keyOf (c .before .before .before .before .before .before .before .before .before .before .before .key-at-start .result) in
+    let w = c .before .before .before .before .before .before .before .before .before .before .put-tables .ensures in
+    let h : ℕ = keyOf (c .before .before .before .before .before .before .before .before .before .before .before .before .key-at-start .result) in
     let p = c .before .before .before .before .before .before .close .ensures w ∙ ap₂ (closed h) (c .before .before .before .before .before .before .before .before .current-count .ensures) (c .before .before .before .before .before .before .before .part-of .ensures) in
     finish-taken (finishRefusal key s) (finished (blockAt key 0) s) (a .state) _ n
     (ap (λ (y : ℕ). state (part y noBytes) (s .countA) (s .countC) 2)
     (c .next .ensures w
     ∙ ap₂ (next h) (ap (λ (x : Part). x .y) p) (c .before .before .length-block .ensures)
     ∙ ap (λ (x : ℕ). next x (closed x (cond (eqb (s .phase) 0) (s .countA) (s .countC)) (held s) .y) (lengthBlock (s .countA) (s .countC)))
-    (c .before .before .before .before .before .before .before .before .before .before .before .key-at-start .ensures)))
+    (c .before .before .before .before .before .before .before .before .before .before .before .before .key-at-start .ensures)))
 
 pub finished-on-spec : {M : Type 1} → statement M
 finished-on-spec =
@@ -87,7 +87,7 @@ finished-on-spec =
     call-refusal-requires
     returns
     key-at-start-requires
-    tables-for-requires
+    put-tables-requires
     current-count-requires
     cast-close
     part-of-requires

@@ -1,10 +1,10 @@
--- `hash::tables_for`: the plain path needs no tables, and `fill_tables` makes the fast path's. Assumes nothing.
+-- `put_tables`: the plain path needs no tables, and `fill_tables` makes the fast path's. Assumes nothing.
 use mathlib.Core.Path.{subst, sym}
 use Rattle.ghash.specs.Path.{Serves}
 use Rattle.ghash.specs.declared.Path.{Path}
 use borrow.Author.Needs.{needs}
-use Rattle.ghash.proofs.tables_for.Statement.{statement}
-use Rattle.ghash.proofs.tables_for.Tie as tie
+use Rattle.ghash.proofs.put_tables.Statement.{statement}
+use Rattle.ghash.proofs.put_tables.Tie as tie
 
 enum-told : tie.Need-enum-told
 enum-told c = search needs
@@ -16,10 +16,10 @@ fill-tables-requires : tie.Need-fill-tables-requires
 fill-tables-requires c κs = search needs
 
 returns : tie.Need-returns
-returns c = subst (λ (p : Path). Serves p (c .before .before .args .key) _) (sym (c .enum-told .given .1)) (record { tables = tt })
+returns c = subst (λ (p : Path). Serves p (c .before .before .args .key) (c .before .before .args .t .now)) (sym (c .enum-told .given .1)) (record { tables = tt })
 
 returns-2 : tie.Need-returns-2
 returns-2 c = subst (λ (p : Path). Serves p (c .before .before .before .before .args .key) (c .fill-tables .last .0)) (sym (c .before .before .enum-told2 .given .1)) (record { tables = c .fill-tables .ensures })
 
-pub tables-for-spec : {M : Type 1} → statement M
-tables-for-spec = tie.close (tie.spec enum-told enum-told-2 fill-tables-requires returns returns-2)
+pub put-tables-spec : {M : Type 1} → statement M
+put-tables-spec = tie.close (tie.spec enum-told enum-told-2 fill-tables-requires returns returns-2)
