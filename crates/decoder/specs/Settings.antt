@@ -16,11 +16,15 @@ use Rattle.word.specs.Word.{decode}
 abbrev pub vlenAllowed : ℕ → Bool
 vlenAllowed vlen = eqb vlen 128 || (eqb vlen 256 || eqb vlen 512)
 
+-- v is a, b, c or d
+abbrev pub oneOf : ℕ → ℕ → ℕ → ℕ → ℕ → Bool
+oneOf v a b c d = eqb v a || (eqb v b || (eqb v c || eqb v d))
+
 abbrev pub sewAllowed : ℕ → Bool
-sewAllowed sew = eqb sew 8 || (eqb sew 16 || (eqb sew 32 || eqb sew 64))
+sewAllowed sew = oneOf sew 8 16 32 64
 
 abbrev pub lmulAllowed : ℕ → Bool
-lmulAllowed lmul = eqb lmul 1 || (eqb lmul 2 || (eqb lmul 4 || eqb lmul 8))
+lmulAllowed lmul = oneOf lmul 1 2 4 8
 
 -- VLMAX
 abbrev pub vlmax : ℕ → ℕ → ℕ → ℕ

@@ -1,7 +1,7 @@
 // The settings of a call, and the refusal of a word under them: document 01's numbers 0 to 8.
 ghost use mathlib.Core.Bool.{not, _&&_};
 ghost use mathlib.Core.Path.{_≡_};
-ghost use Rattle.decoder.specs.Settings.{vlenAllowed, sewAllowed, lmulAllowed, vlmax, registerBytes, fileBytes, groupLength, misaligned};
+ghost use Rattle.decoder.specs.Settings.{oneOf, vlenAllowed, sewAllowed, lmulAllowed, vlmax, registerBytes, fileBytes, groupLength, misaligned};
 ghost use Rattle.decoder.specs.Settings.{isGhash, isVs, isCarrylessVv, hasVs1Group};
 ghost use Rattle.decoder.specs.Settings.{applies1, applies3, applies4, applies5, applies6, applies7, applies8, refusalOfKnown, refusalOfWord, refusalOf};
 use word::Fields;
@@ -33,36 +33,34 @@ fn vlen_allowed(vlen: u32) -> bool
     vlen == 512
 }
 
+// v is a, b, c or d.
+fn one_of(v: u32, a: u32, b: u32, c: u32, d: u32) -> bool
+    ensures { λ r. ⌜ r ≡ oneOf v a b c d ⌝ }
+{
+    if v == a {
+        return true;
+    }
+    if v == b {
+        return true;
+    }
+    if v == c {
+        return true;
+    }
+    v == d
+}
+
 // SEW is 8, 16, 32 or 64.
 fn sew_allowed(sew: u32) -> bool
     ensures { λ r. ⌜ r ≡ sewAllowed sew ⌝ }
 {
-    if sew == 8 {
-        return true;
-    }
-    if sew == 16 {
-        return true;
-    }
-    if sew == 32 {
-        return true;
-    }
-    sew == 64
+    one_of(sew, 8, 16, 32, 64)
 }
 
 // LMUL is 1, 2, 4 or 8.
 pub fn lmul_allowed(lmul: u32) -> bool
     ensures { λ r. ⌜ r ≡ lmulAllowed lmul ⌝ }
 {
-    if lmul == 1 {
-        return true;
-    }
-    if lmul == 2 {
-        return true;
-    }
-    if lmul == 4 {
-        return true;
-    }
-    lmul == 8
+    one_of(lmul, 1, 2, 4, 8)
 }
 
 // VLMAX; 0 where SEW is 0.

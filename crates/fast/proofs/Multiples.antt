@@ -1,22 +1,20 @@
--- The laws of the fast path's tables. Main results: `halves-shifted` (times x, j times, by the halves of a block), `reduced` (the
--- reductions' rule, by one test), `overflow-more` (the reduction of more than four coefficients), `sixteen-put` (the multiples, four at
--- a time) and `next-table`.
+-- The laws of the fast path's tables. Main results: `reduced` (the reductions' rule, by one test), `overflow-more` (the reduction of
+-- more than four coefficients), `sixteen-put` (the multiples, four at a time) and `next-table`.
 -- Assumes nothing.
 use mathlib.Core.Path.{_≡_, refl, sym, ap, ap₂, _∙_, subst}
 use mathlib.Core.Bool.{Bool, _&&_}
 use mathlib.Core.List.{List}
 use mathlib.Core.Logic.{⊎-elim}
 use Prim.Native.Nat.{ℕ, zero, suc, _+_, _-_, _*_, _/_, _%_, _^_, _<_, _≤_}
-use native.Mathlib.Nat.{zero-div, add-zero, add-assoc, add-comm, add-mul, mul-assoc, mul-comm, mod-lt, mul-add-div-right, mul-add-mod-self-right, eq-zero-or-pos, not-suc-le-zero}
+use native.Mathlib.Nat.{zero-div, add-zero, add-assoc, add-comm, mul-assoc, mul-comm, mod-lt, eq-zero-or-pos, not-suc-le-zero}
 use native.Mathlib.Omega.{arith}
-use lib.Arith.{digits-lt}
-use lib.Pow.{pow-pos, pow-add, split, shr-lt, field, mod-mod-pow, mod-pow-add}
-use lib.Bits.{bitXor, xor-comm, xor-lt, xor-mod, xor-shifted, xor-zero-r}
+use lib.Pow.{pow-pos, split, field, mod-mod-pow, mod-pow-add}
+use lib.Bits.{bitXor, xor-comm, xor-lt, xor-mod, xor-shifted}
 use lib.Dec.{T, eqb, eqb→eq, lit<}
 use lib.ListN.{length, getD}
 use lib.Seq.{sets, length-sets}
 use Rattle.gf128.specs.Field.{timesX, shiftedOf, reduction, shifted, product}
-use Rattle.gf128.proofs.Nibbles.{shiftedOf-multiple, shiftedOf-overflow, productOf-place, productOf-digits}
+use Rattle.gf128.proofs.Nibbles.{shiftedOf-multiple, productOf-place, productOf-digits}
 use Rattle.gf128.proofs.Places.{and-left, and-right, shiftedOf-add, shiftedOf-xor, productOf-zero-left}
 use Rattle.gf128.proofs.Stores.{sets-at, sets-below, sets-above}
 use Rattle.gf128.proofs.Tests.{every, at}
@@ -25,43 +23,6 @@ use Rattle.field.proofs.Halves.{halves-xor}
 use Rattle.field.specs.declared.block.Block.{Block}
 use Rattle.field.specs.Block.{valueOf}
 use Rattle.fast.specs.Table.{pairAt, nibble, fourOf, MultiplesPut, ReductionsIn, TablesTo}
-
--- ---- a block as two halves of i + j digits
-
--- j digits leave the high half, and are the highest of the low half
-module _ (i j a r : ℕ) where
-  whole : a * 2 ^ (i + j) ≡ a * 2 ^ i * 2 ^ j
-  whole = ap (λ (x : ℕ). a * x) (pow-add 2 i j) ∙ sym (mul-assoc a (2 ^ i) (2 ^ j))
-
-  moved : (a * 2 ^ (i + j) + r) / 2 ^ j ≡ a / 2 ^ j * 2 ^ (i + j) + (r / 2 ^ j + a % 2 ^ j * 2 ^ i)
-  moved =
-      ap (λ (x : ℕ). (x + r) / 2 ^ j) whole
-      ∙ mul-add-div-right (pow-pos j) (a * 2 ^ i) r
-      ∙ ap (λ (x : ℕ). x + r / 2 ^ j)
-      (ap (λ (x : ℕ). x * 2 ^ i) (sym (split a j)) ∙ add-mul (a / 2 ^ j * 2 ^ j) (a % 2 ^ j) (2 ^ i)
-      ∙ ap (λ (x : ℕ). x + a % 2 ^ j * 2 ^ i)
-      (mul-assoc (a / 2 ^ j) (2 ^ j) (2 ^ i) ∙ ap (λ (x : ℕ). a / 2 ^ j * x) (mul-comm (2 ^ j) (2 ^ i) ∙ sym (pow-add 2 i j))))
-      ∙ add-assoc (a / 2 ^ j * 2 ^ (i + j)) (a % 2 ^ j * 2 ^ i) (r / 2 ^ j)
-      ∙ ap (λ (x : ℕ). a / 2 ^ j * 2 ^ (i + j) + x) (add-comm (a % 2 ^ j * 2 ^ i) (r / 2 ^ j))
-
-  left : (a * 2 ^ (i + j) + r) % 2 ^ j ≡ r % 2 ^ j
-  left = ap (λ (x : ℕ). (x + r) % 2 ^ j) whole ∙ mul-add-mod-self-right (a * 2 ^ i) (2 ^ j) r
-
-  pub moved-lt : r < 2 ^ (i + j) → r / 2 ^ j + a % 2 ^ j * 2 ^ i < 2 ^ (i + j)
-  moved-lt h =
-      subst (λ (x : ℕ). x < 2 ^ (i + j)) (add-comm (a % 2 ^ j * 2 ^ i) (r / 2 ^ j))
-      (subst (λ (x : ℕ). a % 2 ^ j * 2 ^ i + r / 2 ^ j < x) (mul-comm (2 ^ j) (2 ^ i) ∙ sym (pow-add 2 i j))
-      (digits-lt (mod-lt a (pow-pos j)) (shr-lt i j h)))
-
-  -- times x, j times, where e is the high half of the reduction of what leaves, and its low half is zero
-  pub halves-shifted : (R e : ℕ) → r < 2 ^ (i + j) → e * 2 ^ (i + j) ≡ shiftedOf R (r % 2 ^ j) j
-      → bitXor (a / 2 ^ j) e * 2 ^ (i + j) + (r / 2 ^ j + a % 2 ^ j * 2 ^ i) ≡ shiftedOf R (a * 2 ^ (i + j) + r) j
-  halves-shifted R e h rule =
-      let low = r / 2 ^ j + a % 2 ^ j * 2 ^ i in
-      ap (λ (x : ℕ). bitXor (a / 2 ^ j) e * 2 ^ (i + j) + x) (sym (xor-zero-r low))
-      ∙ halves-xor (i + j) (a / 2 ^ j) e low 0 (moved-lt h) (pow-pos (i + j))
-      ∙ ap₂ bitXor (sym moved) (add-zero (e * 2 ^ (i + j)) ∙ rule ∙ ap (λ (x : ℕ). shiftedOf R x j) (sym left))
-      ∙ sym (shiftedOf-overflow R (a * 2 ^ (i + j) + r) j)
 
 -- ---- the reductions
 

@@ -1,46 +1,62 @@
 -- A number as two halves of k digits each: how xor, times x and a coefficient go by the halves.
--- Main results: `halves-xor`, `halves-timesX`, `high-coefficient`, `low-coefficient`. Assumes nothing.
+-- Main results: `halves-xor`, `halves-shifted`, `halves-timesX`, `high-coefficient`, `low-coefficient`. Assumes nothing.
 use mathlib.Core.Path.{_≡_, sym, ap, ap₂, _∙_, subst}
 use Prim.Native.Nat.{ℕ, suc, _+_, _-_, _*_, _/_, _%_, _^_, _≤_, _<_}
-use native.Mathlib.Nat.{div-lt-iff-lt-mul, add-zero, add-assoc, add-comm, add-mul, mul-assoc, mul-comm, mod-lt, zero-lt-suc, div-add-mod', mul-add-div-right, pow-suc, add-sub-assoc}
+use native.Mathlib.Nat.{add-zero, add-assoc, add-comm, add-mul, mul-assoc, mul-comm, mod-lt, mod-eq-of-lt, div-eq-of-lt, mul-add-div-right, mul-add-mod-self-right, add-sub-assoc}
 use native.Mathlib.Omega.{arith}
 use lib.Arith.{digits-lt}
-use lib.Pow.{pow-pos, pow-add, shr-shr, high}
-use lib.Bits.{bitXor, xor-block, xor-zero-r, block-half, block-odd}
-use Rattle.gf128.specs.Field.{coeffOf, timesXOf}
+use lib.Pow.{pow-pos, pow-add, split, shr-lt, shr-shr, high}
+use lib.Bits.{bitXor, xor-block, xor-zero-r, block-odd}
+use Rattle.gf128.specs.Field.{coeffOf, timesXOf, shiftedOf}
+use Rattle.gf128.proofs.Nibbles.{shiftedOf-overflow}
 
 pub halves-xor : (k a b r s : ℕ) → r < 2 ^ k → s < 2 ^ k
     → bitXor a b * 2 ^ k + bitXor r s ≡ bitXor (a * 2 ^ k + r) (b * 2 ^ k + s)
 halves-xor k a b r s hr hs = sym (xor-block k a b r s hr hs)
 
-half-lt : (k r : ℕ) → r < 2 ^ suc k → r / 2 < 2 ^ k
-half-lt k r h = div-lt-iff-lt-mul (zero-lt-suc 1) .1 (rw pow-suc at h)
+-- halves of i + j digits: j digits leave the high half, and are the highest of the low half
+module _ (i j a r : ℕ) where
+  whole : a * 2 ^ (i + j) ≡ a * 2 ^ i * 2 ^ j
+  whole = ap (λ (x : ℕ). a * x) (pow-add 2 i j) ∙ sym (mul-assoc a (2 ^ i) (2 ^ j))
 
--- the digit that leaves the high half is the highest of the low half
-half-of : (k a r : ℕ) → (a * 2 ^ suc k + r) / 2 ≡ a / 2 * 2 ^ suc k + (r / 2 + a % 2 * 2 ^ k)
-half-of k a r =
-    block-half a k r
-    ∙ ap (λ (x : ℕ). x * 2 ^ k + r / 2) (sym (div-add-mod' a 2))
-    ∙ ap (λ (x : ℕ). x + r / 2) (add-mul (a / 2 * 2) (a % 2) (2 ^ k) ∙ ap (λ (x : ℕ). x + a % 2 * 2 ^ k)
-    (mul-assoc (a / 2) 2 (2 ^ k) ∙ ap (λ (x : ℕ). a / 2 * x) (mul-comm 2 (2 ^ k) ∙ sym (pow-suc 2 k))))
-    ∙ add-assoc (a / 2 * 2 ^ suc k) (a % 2 * 2 ^ k) (r / 2)
-    ∙ ap (λ (x : ℕ). a / 2 * 2 ^ suc k + x) (add-comm (a % 2 * 2 ^ k) (r / 2))
+  moved : (a * 2 ^ (i + j) + r) / 2 ^ j ≡ a / 2 ^ j * 2 ^ (i + j) + (r / 2 ^ j + a % 2 ^ j * 2 ^ i)
+  moved =
+      ap (λ (x : ℕ). (x + r) / 2 ^ j) whole
+      ∙ mul-add-div-right (pow-pos j) (a * 2 ^ i) r
+      ∙ ap (λ (x : ℕ). x + r / 2 ^ j)
+      (ap (λ (x : ℕ). x * 2 ^ i) (sym (split a j)) ∙ add-mul (a / 2 ^ j * 2 ^ j) (a % 2 ^ j) (2 ^ i)
+      ∙ ap (λ (x : ℕ). x + a % 2 ^ j * 2 ^ i)
+      (mul-assoc (a / 2 ^ j) (2 ^ j) (2 ^ i) ∙ ap (λ (x : ℕ). a / 2 ^ j * x) (mul-comm (2 ^ j) (2 ^ i) ∙ sym (pow-add 2 i j))))
+      ∙ add-assoc (a / 2 ^ j * 2 ^ (i + j)) (a % 2 ^ j * 2 ^ i) (r / 2 ^ j)
+      ∙ ap (λ (x : ℕ). a / 2 ^ j * 2 ^ (i + j) + x) (add-comm (a % 2 ^ j * 2 ^ i) (r / 2 ^ j))
 
-pub moved-lt : (k a r : ℕ) → r < 2 ^ suc k → r / 2 + a % 2 * 2 ^ k < 2 ^ suc k
-moved-lt k a r h =
-    subst (λ (x : ℕ). x < 2 ^ suc k) (add-comm (a % 2 * 2 ^ k) (r / 2))
-    (subst (λ (x : ℕ). a % 2 * 2 ^ k + r / 2 < x) (mul-comm 2 (2 ^ k) ∙ sym (pow-suc 2 k))
-    (digits-lt (mod-lt a (zero-lt-suc 1)) (half-lt k r h)))
+  left : (a * 2 ^ (i + j) + r) % 2 ^ j ≡ r % 2 ^ j
+  left = ap (λ (x : ℕ). (x + r) % 2 ^ j) whole ∙ mul-add-mod-self-right (a * 2 ^ i) (2 ^ j) r
 
-pub halves-timesX : (k R a r : ℕ) → r < 2 ^ suc k
-    → bitXor (a / 2) (r % 2 * R) * 2 ^ suc k + (r / 2 + a % 2 * 2 ^ k) ≡ timesXOf (R * 2 ^ suc k) (a * 2 ^ suc k + r)
-unfolding timesXOf
+  pub moved-lt : r < 2 ^ (i + j) → r / 2 ^ j + a % 2 ^ j * 2 ^ i < 2 ^ (i + j)
+  moved-lt h =
+      subst (λ (x : ℕ). x < 2 ^ (i + j)) (add-comm (a % 2 ^ j * 2 ^ i) (r / 2 ^ j))
+      (subst (λ (x : ℕ). a % 2 ^ j * 2 ^ i + r / 2 ^ j < x) (mul-comm (2 ^ j) (2 ^ i) ∙ sym (pow-add 2 i j))
+      (digits-lt (mod-lt a (pow-pos j)) (shr-lt i j h)))
+
+  -- times x, j times, where e is the high half of the reduction of what leaves, and its low half is zero
+  pub halves-shifted : (R e : ℕ) → r < 2 ^ (i + j) → e * 2 ^ (i + j) ≡ shiftedOf R (r % 2 ^ j) j
+      → bitXor (a / 2 ^ j) e * 2 ^ (i + j) + (r / 2 ^ j + a % 2 ^ j * 2 ^ i) ≡ shiftedOf R (a * 2 ^ (i + j) + r) j
+  halves-shifted R e h rule =
+      let low = r / 2 ^ j + a % 2 ^ j * 2 ^ i in
+      ap (λ (x : ℕ). bitXor (a / 2 ^ j) e * 2 ^ (i + j) + x) (sym (xor-zero-r low))
+      ∙ halves-xor (i + j) (a / 2 ^ j) e low 0 (moved-lt h) (pow-pos (i + j))
+      ∙ ap₂ bitXor (sym moved) (add-zero (e * 2 ^ (i + j)) ∙ rule ∙ ap (λ (x : ℕ). shiftedOf R x j) (sym left))
+      ∙ sym (shiftedOf-overflow R (a * 2 ^ (i + j) + r) j)
+
+-- once: R is the high half of the reduction, and its low half is zero
+pub halves-timesX : (k R a r : ℕ) → r < 2 ^ (k + 1)
+    → bitXor (a / 2) (r % 2 * R) * 2 ^ (k + 1) + (r / 2 + a % 2 * 2 ^ k) ≡ timesXOf (R * 2 ^ (k + 1)) (a * 2 ^ (k + 1) + r)
+unfolding shiftedOf timesXOf
 halves-timesX k R a r h =
-    ap (λ (x : ℕ). bitXor (a / 2) (r % 2 * R) * 2 ^ suc k + x) (sym (xor-zero-r (r / 2 + a % 2 * 2 ^ k)))
-    ∙ halves-xor (suc k) (a / 2) (r % 2 * R) (r / 2 + a % 2 * 2 ^ k) 0 (moved-lt k a r h) (pow-pos (suc k))
-    ∙ ap₂ bitXor (sym (half-of k a r))
-    (add-zero (r % 2 * R * 2 ^ suc k) ∙ mul-assoc (r % 2) R (2 ^ suc k)
-    ∙ ap (λ (x : ℕ). x * (R * 2 ^ suc k)) (sym (block-odd a k r)))
+    halves-shifted k 1 a r (R * 2 ^ (k + 1)) (r % 2 * R) h
+    (mul-assoc (r % 2) R (2 ^ (k + 1))
+    ∙ ap₂ (λ (x y : ℕ). bitXor x (y * (R * 2 ^ (k + 1)))) (sym (div-eq-of-lt (mod-lt r (pow-pos 1)))) (sym (mod-eq-of-lt (mod-lt r (pow-pos 1)))))
 
 high-digit : (k j a r : ℕ) → r < 2 ^ k → (a * 2 ^ k + r) / 2 ^ (k + j) ≡ a / 2 ^ j
 high-digit k j a r h = sym (shr-shr (a * 2 ^ k + r) k j) ∙ ap (λ (x : ℕ). x / 2 ^ j) (high a k h)

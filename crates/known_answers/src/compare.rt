@@ -25,6 +25,21 @@ fn hash(way: Way, key: &[u8], a: &[u8], c: &[u8]) -> Answer {
     }
 }
 
+// Whether both are the same bytes.
+pub fn same(a: &[u8], b: &[u8]) -> bool {
+    if a.len() != b.len() {
+        return false;
+    }
+    let mut i: usize = 0;
+    while i < a.len() {
+        if a[i] != b[i] {
+            return false;
+        }
+        i += 1;
+    }
+    true
+}
+
 // The 16 bytes of a block.
 pub fn bytes(b: Block) -> [u8; 16]
     ensures { λ r. ⌜ 16 ≡ length r ⌝ }

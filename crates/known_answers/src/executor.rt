@@ -1,4 +1,5 @@
 // Words done on a register file: marked cases, and both sides of the executor's limits.
+use crate::compare::same;
 use crate::pattern::Pattern;
 use crate::pattern::fill;
 use crate::pattern::is_filled;
@@ -6,7 +7,6 @@ use crate::tally::count;
 use crate::tally::report;
 use decoder::group::group_refusal;
 use decoder::settings::Settings;
-use element::element::read_le;
 use vector::execute::execute;
 
 // Words on v8, v16 and v24.
@@ -32,14 +32,22 @@ const VGMUL_VS_31: u32 = 0xA7F8A477;
 // What the file holds before a call.
 const BEFORE: Pattern = Pattern(3, 7, 251);
 
-// Element 0 of v1 after a word on v1, v2 and v3, with a in the two low bytes of v2, and b in those of v3. Before, it is AA.
-pub fn element_after(word: u32, sew: u32, a: u8, b: u8) -> u64 {
+// A word on v1, v2 and v3 makes this of element 0 of v1 and changes nothing else, where the two low bytes of v2 are a, and those of v3 b.
+pub fn element_becomes(word: u32, sew: u32, a: u8, b: u8, element: u64) -> bool {
     let mut file = [0u8; 512];
-    file[16] = 0xAA;
+    fill(BEFORE, &mut file);
     file[32] = a;
     file[33] = a;
     file[48] = b;
     file[49] = b;
+    let high = if sew == 16 {
+        (element / 256 % 256) as u8
+    } else {
+        file[17]
+    };
+    let mut expected = file;
+    expected[16] = (element % 256) as u8;
+    expected[17] = high;
     let s = Settings {
         vlen: 128,
         sew,
@@ -47,8 +55,8 @@ pub fn element_after(word: u32, sew: u32, a: u8, b: u8) -> u64 {
         vl: 1,
         vstart: 0,
     };
-    execute(word, s, 0, &mut file);
-    read_le(&file, 16, 2)
+    let e = execute(word, s, 0, &mut file);
+    (e.number == 0) & same(&file, &expected)
 }
 
 // The number is as it should be. A refusal leaves the file and vstart as they were; else vstart is 0, and the file is another where
@@ -158,6 +166,40 @@ fn settings_and_file_lengths() {
     report(b"VLEN, SEW, LMUL and the length of the file", n, 19);
 }
 
+// None of the eight words, vs2 equal to vd in a .vs word, register 0 in a masked word, and for each the nearest word that is done.
+fn numbers_of_words() {
+    let mut n: u64 = 0;
+    n = case(n, 0x00000000, 512, 128, 32, 1, 4, 0, 2);
+    n = case(n, 0xFFFFFFFF, 512, 128, 32, 1, 4, 0, 2);
+    n = case(n, 0xB30C2476, 512, 128, 32, 1, 4, 0, 2);
+    n = case(n, 0xB10C2477, 512, 128, 32, 1, 4, 0, 2);
+    n = case(n, 0xA3082477, 512, 128, 32, 1, 4, 0, 2);
+    n = case(n, 0xA688A477, 512, 128, 32, 1, 4, 0, 7);
+    n = case(n, 0xA288A477, 512, 128, 32, 1, 4, 0, 0);
+    n = case(n, 0x8E8C2477, 512, 128, 32, 1, 4, 0, 7);
+    n = case(n, 0xB28C2477, 512, 128, 32, 1, 4, 0, 0);
+    n = case(n, 0x310C2057, 512, 128, 32, 1, 4, 0, 8);
+    n = case(n, 0x330C2057, 512, 128, 32, 1, 4, 0, 0);
+    n = case(n, 0x300C2457, 512, 128, 32, 1, 4, 0, 8);
+    n = case(n, 0x31002457, 512, 128, 32, 1, 4, 0, 8);
+    n = case(n, 0x31006457, 512, 128, 32, 1, 4, 0, 0);
+    n = case(n, 0x310C2457, 512, 128, 32, 1, 4, 0, 0);
+    report(b"Numbers 2, 7 and 8", n, 15);
+}
+
+// Each number with the next that can apply beside it.
+fn smallest_of_several() {
+    let mut n: u64 = 0;
+    n = case(n, 0x00000000, 511, 128, 32, 1, 4, 0, 1);
+    n = case(n, 0x00000000, 512, 128, 24, 1, 4, 0, 2);
+    n = case(n, VGHSH_VV, 512, 128, 24, 1, 4, 0, 3);
+    n = case(n, VGHSH_VV, 512, 128, 16, 1, 5, 0, 4);
+    n = case(n, 0xB30C2FF7, 512, 128, 32, 2, 5, 0, 5);
+    n = case(n, 0xA7F8AFF7, 512, 128, 32, 2, 4, 0, 6);
+    n = case(n, 0x300C2FD7, 512, 128, 32, 2, 4, 0, 6);
+    report(b"The smallest of several numbers", n, 7);
+}
+
 // The number that is given for a register group.
 fn group(agreed: u64, vlen: u32, file_len: usize, lmul: u32, register: u32, number: u32) -> u64 {
     count(
@@ -183,5 +225,7 @@ pub fn run() {
     ghash_vl_and_vstart();
     register_31();
     settings_and_file_lengths();
+    numbers_of_words();
+    smallest_of_several();
     group_question();
 }

@@ -2,7 +2,7 @@
 use crate::compare::Way;
 use crate::compare::answer;
 use crate::compare::hash_answer;
-use crate::executor::element_after;
+use crate::executor::element_becomes;
 use crate::tally;
 use crate::tally::count;
 use fast::product_fast_bytes;
@@ -27,8 +27,8 @@ fn end_line(k: u64, agreed: u64, tried: u64) {
 
 // Elements a by b; with SEW 16 both bytes of each.
 fn carryless(k: u64, sew: u32, a: u8, b: u8, low: u64, high: u64) {
-    let n = count(0, element_after(VCLMUL, sew, a, b) == low);
-    end_line(k, count(n, element_after(VCLMULH, sew, a, b) == high), 2);
+    let n = count(0, element_becomes(VCLMUL, sew, a, b, low));
+    end_line(k, count(n, element_becomes(VCLMULH, sew, a, b, high)), 2);
 }
 
 fn products(k: u64, block: &[u8], key: &[u8], expected: Block) {

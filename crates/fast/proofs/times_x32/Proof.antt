@@ -2,7 +2,7 @@
 -- Assumes nothing.
 use borrow.Author.Needs.{needs}
 use Rattle.gf128.specs.Field.{reduction}
-use Rattle.fast.proofs.Multiples.{moved-lt, halves-shifted}
+use Rattle.field.proofs.Halves.{moved-lt, halves-shifted}
 use Rattle.fast.proofs.times_x32.Statement.{statement}
 use Rattle.fast.proofs.times_x32.Tie as tie
 

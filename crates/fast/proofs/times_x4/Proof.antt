@@ -3,7 +3,7 @@
 use Prim.Native.Nat.{_%_}
 use borrow.Author.Needs.{needs}
 use Rattle.gf128.specs.Field.{reduction}
-use Rattle.fast.proofs.Multiples.{moved-lt, halves-shifted}
+use Rattle.field.proofs.Halves.{moved-lt, halves-shifted}
 use Rattle.fast.proofs.times_x4.Statement.{statement}
 use Rattle.fast.proofs.times_x4.Tie as tie
 

@@ -12,7 +12,7 @@ mul-t10 : tie.Need-mul-t10
 mul-t10 c = search needs
 
 add-t11 : tie.Need-add-t11
-add-t11 c = record { fits = moved-lt 63 (c .args .v .0) (c .args .v .1) (omega arith) }
+add-t11 c = record { fits = moved-lt 63 1 (c .args .v .0) (c .args .v .1) (omega arith) }
 
 returns : tie.Need-returns
 returns c = halves-timesX 63 0xE100000000000000 (c .args .v .0) (c .args .v .1) (omega arith)

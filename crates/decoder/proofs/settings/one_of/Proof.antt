@@ -1,10 +1,10 @@
--- `lmul_allowed` is the definition's test, one allowed number after the other.
+-- `one_of` is the definition's test, one number after the other.
 -- Assumes nothing.
 use mathlib.Core.Path.{refl}
 use borrow.Author.Tests.{eq-eqb, ne-eqb}
 use Rattle.word.proofs.Tests.{or-here, or-next}
-use Rattle.decoder.proofs.settings.lmul_allowed.Statement.{statement}
-use Rattle.decoder.proofs.settings.lmul_allowed.Tie as tie
+use Rattle.decoder.proofs.settings.one_of.Statement.{statement}
+use Rattle.decoder.proofs.settings.one_of.Tie as tie
 
 returns : tie.Need-returns
 returns c = or-here _ _ (eq-eqb _ _ (c .if1 .taken))
@@ -31,5 +31,5 @@ returns-4 c =
     (or-next _ _ (ne-eqb _ _ (c2 .if2 .left))
     (or-next _ _ (ne-eqb _ _ (c .if3 .left)) refl))
 
-pub lmul-allowed-spec : {M : Type 1} → statement M
-lmul-allowed-spec = tie.close (tie.spec returns returns-2 returns-3 returns-4)
+pub one-of-spec : {M : Type 1} → statement M
+one-of-spec = tie.close (tie.spec returns returns-2 returns-3 returns-4)
