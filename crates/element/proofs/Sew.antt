@@ -8,7 +8,7 @@ use native.Mathlib.Omega.{arith}
 use borrow.Author.Tests.{eqb-true}
 use lib.Dec.{eqb}
 use Rattle.word.proofs.Tests.{or-true}
-use Rattle.decoder.specs.Settings.{sewAllowed}
+use Rattle.registers.specs.Settings.{sewAllowed}
 
 pub sew-cases : (sew : ℕ) → sewAllowed sew ≡ true → (sew ≡ 8) ⊎ ((sew ≡ 16) ⊎ ((sew ≡ 32) ⊎ (sew ≡ 64)))
 sew-cases sew e =

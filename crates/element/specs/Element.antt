@@ -3,7 +3,7 @@
 use Prim.Native.Nat.{ℕ, zero, suc, _+_, _*_, _/_, _%_, _^_}
 use mathlib.Core.List.{List}
 use lib.ListN.{getD, set}
-use Rattle.decoder.specs.Settings.{registerBytes}
+use Rattle.registers.specs.Settings.{registerBytes}
 
 -- the number in n bytes from `at` on
 unfoldable pub readLe : List ℕ → ℕ → ℕ → ℕ

@@ -2,7 +2,7 @@
 ghost use mathlib.Core.Bool.{true};
 ghost use mathlib.Core.Path.{_≡_};
 ghost use Prim.Native.Nat.{_+_, _*_, _%_, _^_, _<_, _≤_};
-ghost use Rattle.decoder.specs.Settings.{sewAllowed};
+ghost use Rattle.registers.specs.Settings.{sewAllowed};
 ghost use Rattle.element.specs.Clmul.{clmul64, halfOf};
 
 // The half of a carry-less product that a word keeps.

@@ -4,8 +4,8 @@ ghost use mathlib.Core.Path.{_≡_};
 ghost use Prim.Native.Nat.{_≤_};
 ghost use lib.ListN.{set};
 ghost use Rattle.element.specs.Element.{readLe, writeLe, elementAt, blockPlace, maskBit};
-use decoder::settings::register_bytes;
 use field::block::byte_or_zero;
+use registers::settings::register_bytes;
 
 // The number in the n bytes from `at` on.
 pub fn read_le(file: &[u8], at: usize, n: usize) -> u64

@@ -5,8 +5,8 @@ use crate::pattern::fill;
 use crate::pattern::is_filled;
 use crate::tally::count;
 use crate::tally::report;
-use decoder::group::group_refusal;
-use decoder::settings::Settings;
+use registers::group::group_refusal;
+use registers::settings::Settings;
 use vector::execute::execute;
 
 // Words on v8, v16 and v24.

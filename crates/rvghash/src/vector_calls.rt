@@ -1,12 +1,12 @@
 // The executor and the group question.
 ghost use mathlib.Core.Path.{_≡_};
 ghost use lib.ListN.{length};
-ghost use Rattle.decoder.specs.Group.{groupRefusal};
-ghost use Rattle.decoder.specs.Settings.{refusalOf};
+ghost use Rattle.registers.specs.Group.{groupRefusal};
+ghost use Rattle.decoder.specs.Refusal.{refusalOf};
 ghost use Rattle.vector.specs.Execute.{executed, vstartAfter};
 ghost use Rattle.rvghash.specs.Call.{settingsOf};
-use decoder::group::group_refusal;
-use decoder::settings::Settings;
+use registers::group::group_refusal;
+use registers::settings::Settings;
 use vector::execute::execute;
 
 #[no_mangle]

@@ -11,9 +11,9 @@ use borrow.Author.Tests.{eqb-false}
 use lib.Dec.{eqb}
 use lib.ListN.{length}
 use lib.Pow.{pow-add, pow-pos}
-use Rattle.decoder.specs.declared.settings.Settings.{Settings}
+use Rattle.registers.specs.declared.settings.Settings.{Settings}
 use Rattle.word.specs.declared.Fields.{Fields}
-use Rattle.decoder.specs.Settings.{registerBytes, groupLength}
+use Rattle.registers.specs.Settings.{registerBytes, groupLength}
 use Rattle.element.specs.declared.clmul.Half.{Half}
 use Rattle.element.specs.declared.clmul.Half.the-variants.{Low, High}
 use Rattle.vector.specs.declared.execute.Multiplier.{Multiplier}

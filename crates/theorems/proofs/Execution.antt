@@ -11,13 +11,14 @@ use native.Mathlib.Omega.{arith}
 use borrow.Author.Tests.{eqb-true, eqb-false, eq-eqb, not-false}
 use lib.Dec.{eqb}
 use lib.ListN.{length, getD}
-use Rattle.decoder.specs.declared.settings.Settings.{Settings}
+use Rattle.registers.specs.declared.settings.Settings.{Settings}
 use Rattle.word.specs.declared.Fields.{Fields}
 use Rattle.word.specs.declared.Kind.{Kind}
 use Rattle.word.specs.declared.Kind.the-variants.{VclmulVv, VclmulVx, VclmulhVv, VclmulhVx, VghshVv, VghshVs, VgmulVv, VgmulVs}
 use Rattle.word.specs.declared.Word.{Word}
 use Rattle.word.specs.declared.Word.the-variants.{Known, Unknown}
-use Rattle.decoder.specs.Settings.{misaligned, isVs, hasVs1Group, refusalOf}
+use Rattle.registers.specs.Settings.{misaligned}
+use Rattle.decoder.specs.Refusal.{isVs, hasVs1Group, refusalOf}
 use Rattle.word.specs.Word.{decode}
 use Rattle.word.proofs.Tests.{or-false}
 use Rattle.element.specs.declared.clmul.Half.{Half}

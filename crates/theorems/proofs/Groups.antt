@@ -12,9 +12,9 @@ use Rattle.gf128.specs.Bytes.{blockAt, putBlock}
 use Rattle.gf128.specs.Field.{product}
 use Rattle.gf128.proofs.Bytes.{beAt-lt, blockAt-putBlock, length-putBlock}
 use Rattle.gf128.proofs.Field.{product-lt}
-use Rattle.decoder.specs.declared.settings.Settings.{Settings}
+use Rattle.registers.specs.declared.settings.Settings.{Settings}
 use Rattle.word.specs.declared.Fields.{Fields}
-use Rattle.decoder.specs.Settings.{registerBytes, groupLength}
+use Rattle.registers.specs.Settings.{registerBytes, groupLength}
 use Rattle.vector.specs.declared.execute.Multiplicand.{Multiplicand}
 use Rattle.vector.specs.declared.execute.Multiplicand.the-variants.{YXorX, YAlone}
 use Rattle.element.specs.Element.{blockPlace}

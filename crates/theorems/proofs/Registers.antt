@@ -11,14 +11,14 @@ use native.Mathlib.Nat.{le-div-iff-mul-le, div-add-mod', mul-le-mul-right, suc-m
 use native.Mathlib.Omega.{arith}
 use borrow.Author.Tests.{eqb-true, ltb-false, not-false}
 use lib.Dec.{eqb, ltb}
-use Rattle.decoder.specs.declared.settings.Settings.{Settings}
+use Rattle.registers.specs.declared.settings.Settings.{Settings}
 use Rattle.word.specs.declared.Fields.{Fields}
 use Rattle.word.specs.declared.Kind.{Kind}
 use Rattle.word.specs.declared.Word.the-variants.{Known}
-use Rattle.decoder.specs.Settings.{applies1, applies3, registerBytes, fileBytes, groupLength, vlenAllowed, sewAllowed, lmulAllowed, vlmax, misaligned}
+use Rattle.registers.specs.Settings.{applies1, applies3, registerBytes, fileBytes, groupLength, vlenAllowed, sewAllowed, lmulAllowed, vlmax, misaligned}
 use Rattle.word.specs.Word.{among, kinds, decode, isRow, row, fieldsOf}
-use Rattle.decoder.proofs.Allowed.{vlen-cases, lmul-cases}
-use Rattle.decoder.proofs.Groups.{last-register, registers-within}
+use Rattle.registers.proofs.Allowed.{vlen-cases, lmul-cases}
+use Rattle.registers.proofs.Groups.{last-register, registers-within}
 use Rattle.word.proofs.Tests.{or-false}
 use Rattle.element.proofs.Sew.{sew-cases, sew-facts}
 use Rattle.theorems.specs.Execution.{Within}

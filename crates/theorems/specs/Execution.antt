@@ -8,11 +8,11 @@ use mathlib.Core.Path.{_≡_}
 use lib.Bits.{bitXor}
 use lib.ListN.{length, getD}
 use Rattle.gf128.specs.Field.{product}
-use Rattle.decoder.specs.declared.settings.Settings.{Settings}
+use Rattle.registers.specs.declared.settings.Settings.{Settings}
 use Rattle.word.specs.declared.Fields.{Fields}
 use Rattle.word.specs.declared.Kind.{Kind}
 use Rattle.word.specs.declared.Kind.the-variants.{VclmulVv, VclmulVx, VclmulhVv, VclmulhVx, VghshVv, VghshVs, VgmulVv, VgmulVs}
-use Rattle.decoder.specs.Settings.{isGhash}
+use Rattle.decoder.specs.Refusal.{isGhash}
 use Rattle.element.specs.Clmul.{clmul64, lowHalf, highHalf}
 use Rattle.element.specs.Element.{elementAt, blockPlace}
 use Rattle.vector.specs.Execute.{active, element, scalarOf, group}

@@ -9,12 +9,13 @@ use native.Mathlib.Nat.{suc-ne-zero, zero-lt-suc}
 use borrow.Author.Tests.{eq-eqb, ne-eqb, not-false}
 use lib.Dec.{eqb, ltb}
 use lib.ListN.{length}
-use Rattle.decoder.specs.declared.settings.Settings.{Settings}
+use Rattle.registers.specs.declared.settings.Settings.{Settings}
 use Rattle.word.specs.declared.Fields.{Fields}
 use Rattle.word.specs.declared.Kind.{Kind}
 use Rattle.word.specs.declared.Word.{Word}
 use Rattle.word.specs.declared.Word.the-variants.{Known, Unknown}
-use Rattle.decoder.specs.Settings.{applies1, applies3, applies4, applies5, applies6, applies7, applies8, sewAllowed, lmulAllowed, vlmax, refusalOfKnown, refusalOfWord, refusalOf}
+use Rattle.registers.specs.Settings.{applies1, applies3, sewAllowed, lmulAllowed, vlmax}
+use Rattle.decoder.specs.Refusal.{applies4, applies5, applies6, applies7, applies8, refusalOfKnown, refusalOfWord, refusalOf}
 use Rattle.word.specs.Word.{decode}
 use Rattle.word.proofs.Tests.{or-false, passed, pick-here, pick-next}
 use Rattle.vector.specs.Execute.{done, executed, vstartAfter}

@@ -6,7 +6,7 @@ use mathlib.Core.List.{List}
 use Prim.Native.Nat.{ℕ, suc, _+_, _-_, _/_, _<_, _≤_}
 use native.Mathlib.Omega.{arith}
 use Rattle.word.proofs.Tests.{pick-here, pick-next}
-use Rattle.decoder.specs.declared.settings.Settings.{Settings}
+use Rattle.registers.specs.declared.settings.Settings.{Settings}
 use Rattle.word.specs.declared.Fields.{Fields}
 use Rattle.element.specs.declared.clmul.Half.{Half}
 use Rattle.vector.specs.declared.execute.Multiplier.{Multiplier}

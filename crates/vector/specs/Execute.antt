@@ -15,7 +15,7 @@ use Rattle.vector.specs.declared.execute.Multiplier.{Multiplier}
 use Rattle.vector.specs.declared.execute.Multiplier.the-variants.{Vs1, Scalar}
 use Rattle.vector.specs.declared.execute.Multiplicand.{Multiplicand}
 use Rattle.vector.specs.declared.execute.Multiplicand.the-variants.{YXorX, YAlone}
-use Rattle.decoder.specs.declared.settings.Settings.{Settings}
+use Rattle.registers.specs.declared.settings.Settings.{Settings}
 use Rattle.word.specs.declared.Kind.{Kind}
 use Rattle.word.specs.declared.Kind.the-variants.{VclmulVv, VclmulVx, VclmulhVv, VclmulhVx, VghshVv, VghshVs, VgmulVv, VgmulVs}
 use Rattle.word.specs.declared.Fields.{Fields}
@@ -23,7 +23,7 @@ use Rattle.word.specs.declared.Word.{Word}
 use Rattle.word.specs.declared.Word.the-variants.{Known, Unknown}
 use Rattle.element.specs.Clmul.{clmul64, halfOf}
 use Rattle.element.specs.Element.{readLe, writeLe, elementAt, blockPlace, maskBit}
-use Rattle.decoder.specs.Settings.{refusalOf}
+use Rattle.decoder.specs.Refusal.{refusalOf}
 use Rattle.word.specs.Word.{decode}
 
 -- foreach i, n times from i on

@@ -2,7 +2,7 @@
 use mathlib.Core.Path.{_≡_, sym, ap, _∙_}
 use borrow.Author.Needs.{needs}
 use lib.ListN.{length}
-use Rattle.decoder.specs.Settings.{refusalOf}
+use Rattle.decoder.specs.Refusal.{refusalOf}
 use Rattle.word.specs.declared.Word.{Word}
 use Rattle.vector.specs.Execute.{done}
 use Rattle.vector.proofs.Admitted.{admitted, sew-allowed, refused, performed}
