@@ -4,13 +4,13 @@ use field::product::Answer;
 use ghash::Path;
 use running::Fed;
 use running::Finished;
-use running::Running;
 use running::fed_a_fast;
 use running::fed_a_plain;
 use running::fed_c_fast;
 use running::fed_c_plain;
 use running::finished_fast;
 use running::finished_plain;
+use running_state::Running;
 
 // Which path each call takes.
 pub enum Mix {

@@ -9,8 +9,9 @@ use lib.Arith.{digits-div, digits-mod}
 use lib.Dec.{eqb}
 use Rattle.field.specs.Block.{valueOf}
 use Rattle.gf128.specs.Running.{State}
-use Rattle.running.specs.State.{view, Feeds, Finishes}
-use Rattle.running.specs.declared.Running.{Running}
+use Rattle.running_state.specs.State.{view}
+use Rattle.running.specs.Answers.{Feeds, Finishes}
+use Rattle.running_state.specs.declared.Running.{Running}
 use Rattle.field.specs.declared.block.Block.{Block}
 use Rattle.running.specs.declared.Fed.{Fed}
 

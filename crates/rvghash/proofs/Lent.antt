@@ -45,10 +45,10 @@ use denote.Triple.Call.{calls-at}
 use denote.Triple.Clauses.{Ended, Clauses, Lasts, ensured, closing}
 use denote.Triple.Table.{entered, cited}
 use denote.Triple.Walked.{says, Stay, Stays, stay-ref, walkOf, Goes, goes-ref, ends-at, walked, walk-meets}
-use Rattle.running.specs.declared.Running.{Running}
+use Rattle.running_state.specs.declared.Running.{Running}
 use Rattle.running.specs.declared.Fed.{Fed}
-use Rattle.running.proofs.Running as T
-use Rattle.running.proofs.Running.Laws as T′
+use Rattle.running_state.proofs.Running as T
+use Rattle.running_state.proofs.Running.Laws as T′
 use Rattle.running.proofs.Fed as F
 use Rattle.running.proofs.Fed.Laws as F′
 

@@ -14,8 +14,9 @@ use Rattle.field.specs.declared.product.Answer.{Answer}
 use Rattle.gf128.specs.Bytes.{blockBytes, putBlock}
 use Rattle.gf128.specs.Running.{State, finishRefusal, afterFinish, finishBlock}
 use Rattle.gf128.proofs.Bytes.{length-beBytes}
-use Rattle.running.specs.State.{view, Feeds, Finishes}
-use Rattle.running.specs.declared.Running.{Running}
+use Rattle.running_state.specs.State.{view}
+use Rattle.running.specs.Answers.{Feeds, Finishes}
+use Rattle.running_state.specs.declared.Running.{Running}
 use Rattle.running.specs.declared.Finished.{Finished}
 use Rattle.rvghash.specs.Lent.{stateFor}
 use Rattle.inverse.specs.StepBack.{StepsBackBytes}

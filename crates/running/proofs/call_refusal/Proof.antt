@@ -4,7 +4,7 @@ use mathlib.Core.Bool.{true, false}
 use borrow.Author.Tests.{eq-eqb, ne-eqb}
 use lib.ListN.{length}
 use Rattle.gf128.specs.Running.{malformed}
-use Rattle.running.specs.State.{view}
+use Rattle.running_state.specs.State.{view}
 use borrow.Author.Needs.{needs}
 use Rattle.running.proofs.call_refusal.Statement.{statement}
 use Rattle.running.proofs.call_refusal.Tie as tie

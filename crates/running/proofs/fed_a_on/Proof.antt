@@ -8,7 +8,7 @@ use Rattle.gf128.specs.Hash.{limit}
 use Rattle.gf128.specs.Running.{Part, feedARefusal, finishRefusal, pushed, fedA}
 use Rattle.gf128.proofs.Running.{state, well-formed, first-a, open-call, takes-a}
 use Rattle.field.specs.Block.{keyOf}
-use Rattle.running.specs.State.{view, held}
+use Rattle.running_state.specs.State.{view, held}
 use Rattle.running.proofs.Answers.{feed-refused, feed-refused-with, feed-taken}
 use borrow.Author.Needs.{needs}
 use Rattle.running.proofs.fed_a_on.Statement.{statement}

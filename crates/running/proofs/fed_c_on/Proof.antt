@@ -8,7 +8,7 @@ use Rattle.gf128.specs.Hash.{limit}
 use Rattle.gf128.specs.Running.{Part, feedCRefusal, finishRefusal, pushed, startedC, fedC}
 use Rattle.gf128.proofs.Running.{state, well-formed, started-zeros, first-c, open-call, takes-c}
 use Rattle.field.specs.Block.{keyOf}
-use Rattle.running.specs.State.{view}
+use Rattle.running_state.specs.State.{view}
 use Rattle.running.proofs.Answers.{feed-refused, feed-refused-with, feed-taken}
 use borrow.Author.Needs.{needs}
 use Rattle.running.proofs.fed_c_on.Statement.{statement}

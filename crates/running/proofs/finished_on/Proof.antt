@@ -9,7 +9,7 @@ use Rattle.gf128.specs.Running.{Part, noBytes, finishRefusal, closed, finished}
 use Rattle.gf128.proofs.Parts.{part}
 use Rattle.gf128.proofs.Running.{state, open-call, takes-end}
 use Rattle.field.specs.Block.{keyOf}
-use Rattle.running.specs.State.{view, held}
+use Rattle.running_state.specs.State.{view, held}
 use Rattle.running.proofs.Answers.{finish-refused, finish-taken}
 use borrow.Author.Needs.{needs}
 use Rattle.running.proofs.finished_on.Statement.{statement}

@@ -36,13 +36,13 @@ use denote.Triple.Clauses.{ensured, lasts}
 use denote.Triple.Table.{entered, cited}
 use denote.Triple.Walked.{says, Stays, stay-ref, walkOf, goes-ref, Walks, ends-at, walked, walk-meets}
 use Rattle.gf128.specs.Running.{fresh}
-use Rattle.running.specs.State.{view}
-use Rattle.running.specs.declared.Running.{Running}
-use Rattle.running.proofs.Running as T
-use Rattle.running.proofs.Running.Laws as T′
-use Rattle.running.proofs.Running.new as new
-use Rattle.running.proofs.Running.new.Symbol.{name as #new, routine}
-use Rattle.running.proofs.Running.new.Met.{met}
+use Rattle.running_state.specs.State.{view}
+use Rattle.running_state.specs.declared.Running.{Running}
+use Rattle.running_state.proofs.Running as T
+use Rattle.running_state.proofs.Running.Laws as T′
+use Rattle.running_state.proofs.Running.new as new
+use Rattle.running_state.proofs.Running.new.Symbol.{name as #new, routine}
+use Rattle.running_state.proofs.Running.new.Met.{met}
 use Rattle.rvghash.proofs.running_calls.rvghash_running_new as f
 use Rattle.rvghash.proofs.running_calls.rvghash_running_new.Key.{name as #f}
 use Rattle.rvghash.proofs.running_calls.rvghash_running_new.Statement.{statement}

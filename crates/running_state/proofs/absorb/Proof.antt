@@ -7,10 +7,10 @@ use lib.Seq.{length-take-le, take-all}
 use Rattle.gf128.specs.Running.{pushed}
 use Rattle.gf128.proofs.Parts.{pushed-mod, pushed-gap}
 use Rattle.field.specs.Block.{valueOf, keyOf}
-use Rattle.running.specs.State.{partOf, opened}
+use Rattle.running_state.specs.State.{partOf, opened}
 use borrow.Author.Needs.{needs}
-use Rattle.running.proofs.absorb.Statement.{statement}
-use Rattle.running.proofs.absorb.Tie as tie
+use Rattle.running_state.proofs.absorb.Statement.{statement}
+use Rattle.running_state.proofs.absorb.Tie as tie
 
 sub-gap : tie.Need-sub-gap
 sub-gap c = search needs

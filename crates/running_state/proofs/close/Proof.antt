@@ -3,10 +3,10 @@ use mathlib.Core.Path.{refl, sym, ap, _∙_}
 use Rattle.gf128.specs.Hash.{next}
 use Rattle.gf128.proofs.Parts.{part-same, closed-whole, closed-open}
 use Rattle.field.specs.Block.{valueOf, keyOf}
-use Rattle.running.specs.State.{partOf}
+use Rattle.running_state.specs.State.{partOf}
 use borrow.Author.Needs.{needs}
-use Rattle.running.proofs.close.Statement.{statement}
-use Rattle.running.proofs.close.Tie as tie
+use Rattle.running_state.proofs.close.Statement.{statement}
+use Rattle.running_state.proofs.close.Tie as tie
 
 returns : tie.Need-returns
 returns c = λ w.

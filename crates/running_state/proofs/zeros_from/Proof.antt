@@ -6,8 +6,8 @@ use borrow.Author.Tests.{eq-eqb, ne-eqb}
 use lib.ListN.{length, getD, drop, drop-of-length-le}
 use Rattle.gf128.specs.Running.{allZero}
 use Rattle.gf128.proofs.Parts.{zeros-step}
-use Rattle.running.proofs.zeros_from.Statement.{statement}
-use Rattle.running.proofs.zeros_from.Tie as tie
+use Rattle.running_state.proofs.zeros_from.Statement.{statement}
+use Rattle.running_state.proofs.zeros_from.Tie as tie
 
 abbrev Inv-loop : tie.InvT-loop
 Inv-loop s from i₀ i = allZero (drop i s) ≡ allZero (drop from s)

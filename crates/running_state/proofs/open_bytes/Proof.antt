@@ -1,8 +1,8 @@
 -- `running::open_bytes` is the count of the current part modulo 16, and 0 in phase 2. Assumes nothing.
 use borrow.Author.Tests.{eq-eqb, ne-eqb}
 use borrow.Author.Needs.{needs}
-use Rattle.running.proofs.open_bytes.Statement.{statement}
-use Rattle.running.proofs.open_bytes.Tie as tie
+use Rattle.running_state.proofs.open_bytes.Statement.{statement}
+use Rattle.running_state.proofs.open_bytes.Tie as tie
 
 cast-result : tie.Need-cast-result
 cast-result c = search needs

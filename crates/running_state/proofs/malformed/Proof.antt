@@ -5,10 +5,10 @@ use borrow.Author.Tests.{le-ltb, lt-ltb}
 use lib.ListN.{drop}
 use Rattle.gf128.specs.Hash.{limit}
 use Rattle.gf128.specs.Running.{allZero, openBytes}
-use Rattle.running.specs.State.{view}
+use Rattle.running_state.specs.State.{view}
 use borrow.Author.Needs.{needs}
-use Rattle.running.proofs.malformed.Statement.{statement}
-use Rattle.running.proofs.malformed.Tie as tie
+use Rattle.running_state.proofs.malformed.Statement.{statement}
+use Rattle.running_state.proofs.malformed.Tie as tie
 
 returns : tie.Need-returns
 returns c = rw (lt-ltb 2 (c .before .before .args .state .phase) (c .if1 .taken))

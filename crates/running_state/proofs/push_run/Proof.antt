@@ -8,9 +8,9 @@ use Rattle.gf128.proofs.Parts.{pushed-mod, pushed-drop}
 use Rattle.gf128.specs.Running.{Part, pushed}
 use Rattle.field.specs.Block.{keyOf}
 use Rattle.ghash.specs.Path.{Serves}
-use Rattle.running.specs.State.{partOf}
-use Rattle.running.proofs.push_run.Statement.{statement}
-use Rattle.running.proofs.push_run.Tie as tie
+use Rattle.running_state.specs.State.{partOf}
+use Rattle.running_state.proofs.push_run.Statement.{statement}
+use Rattle.running_state.proofs.push_run.Tie as tie
 
 abbrev Inv-loop : tie.InvT-loop
 Inv-loop path key t place s part₀ at₀ i₀ part at i =

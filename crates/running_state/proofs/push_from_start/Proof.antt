@@ -8,10 +8,10 @@ use lib.Seq.{length-take-le, take-all}
 use Rattle.gf128.specs.Running.{pushed}
 use Rattle.gf128.proofs.Parts.{pushed-cut}
 use Rattle.field.specs.Block.{valueOf, keyOf}
-use Rattle.running.specs.State.{opened}
+use Rattle.running_state.specs.State.{opened}
 use borrow.Author.Needs.{needs}
-use Rattle.running.proofs.push_from_start.Statement.{statement}
-use Rattle.running.proofs.push_from_start.Tie as tie
+use Rattle.running_state.proofs.push_from_start.Statement.{statement}
+use Rattle.running_state.proofs.push_from_start.Tie as tie
 
 mul-whole : tie.Need-mul-whole
 mul-whole c = search needs

@@ -1,29 +1,12 @@
--- The running hash of the code as a state of document 01, and what its calls answer.
+-- What the calls on a running hash answer.
 -- Assumes nothing.
 use mathlib.Core.Path.{_≡_}
 use Prim.Native.Nat.{ℕ}
 use Rattle.field.specs.Block.{valueOf}
-use Rattle.gf128.specs.Running as gf128
 use Rattle.gf128.specs.Running.{State}
-use Rattle.running.specs.declared.Running.{Running}
-use Rattle.running.specs.declared.Part.{Part}
+use Rattle.running_state.specs.State.{view}
+use Rattle.running_state.specs.declared.Running.{Running}
 use Rattle.running.specs.declared.Finished.{Finished}
-
-abbrev pub view : Running → State
-view s =
-    record { y = valueOf (s .y); block = s .«open_block»; countA = s .«a_count»; countC = s .«c_count»; phase = s .phase }
-
--- Y and the open block
-abbrev pub partOf : Part → gf128.Part
-partOf p = record { y = valueOf (p .y); block = p .bytes }
-
--- those of a state
-abbrev pub held : State → gf128.Part
-held s = record { y = s .y; block = s .block }
-
--- Y with no byte open
-abbrev pub opened : ℕ → gf128.Part
-opened y = record { y = y; block = gf128.noBytes }
 
 -- a call that feeds answers the number n and the running hash t; a refusal gives back the very one that came in
 pub record Feeds (number : ℕ) (after : State) (before : Running) (n : ℕ) (t : Running) : Type 0 where

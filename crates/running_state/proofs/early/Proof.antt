@@ -1,7 +1,7 @@
 -- `running::early`: C's count is not 0 in phase 0. Assumes nothing.
 use borrow.Author.Tests.{eq-eqb, ne-eqb}
-use Rattle.running.proofs.early.Statement.{statement}
-use Rattle.running.proofs.early.Tie as tie
+use Rattle.running_state.proofs.early.Statement.{statement}
+use Rattle.running_state.proofs.early.Tie as tie
 
 returns : tie.Need-returns
 returns c =

@@ -7,10 +7,10 @@ use Rattle.gf128.specs.Bytes.{blockAt}
 use Rattle.gf128.specs.Hash.{next}
 use Rattle.gf128.proofs.Parts.{part-same, push-full, push-open}
 use Rattle.field.specs.Block.{valueOf, keyOf}
-use Rattle.running.specs.State.{partOf}
+use Rattle.running_state.specs.State.{partOf}
 use borrow.Author.Needs.{needs}
-use Rattle.running.proofs.push.Statement.{statement}
-use Rattle.running.proofs.push.Tie as tie
+use Rattle.running_state.proofs.push.Statement.{statement}
+use Rattle.running_state.proofs.push.Tie as tie
 
 array-write-bytes : tie.Need-array-write-bytes
 array-write-bytes c = search needs
