@@ -16,11 +16,11 @@ use Rattle.word.specs.declared.Fields.{Fields}
 use Rattle.registers.specs.Settings.{registerBytes, groupLength}
 use Rattle.element.specs.declared.clmul.Half.{Half}
 use Rattle.element.specs.declared.clmul.Half.the-variants.{Low, High}
-use Rattle.vector.specs.declared.execute.Multiplier.{Multiplier}
-use Rattle.vector.specs.declared.execute.Multiplier.the-variants.{Vs1, Scalar}
+use Rattle.carryless.specs.declared.Multiplier.{Multiplier}
+use Rattle.carryless.specs.declared.Multiplier.the-variants.{Vs1, Scalar}
 use Rattle.element.specs.Clmul.{halfOf, clmul64}
 use Rattle.element.specs.Element.{readLe, writeLe, elementAt, maskBit}
-use Rattle.vector.specs.Execute.{active, element, multiplierOf, carrylessResult, carrylessStep, carryless}
+use Rattle.carryless.specs.Carryless.{active, element, multiplierOf, carrylessResult, carrylessStep, carryless}
 use Rattle.theorems.specs.Execution.{Done}
 use Rattle.theorems.proofs.Bytes.{readLe-same, writeLe-length, writeLe-other, writeLe-read}
 use Rattle.theorems.proofs.Fold.{Except, Does, fold-done}

@@ -23,13 +23,16 @@ use Rattle.word.specs.Word.{decode}
 use Rattle.word.proofs.Tests.{or-false}
 use Rattle.element.specs.declared.clmul.Half.{Half}
 use Rattle.element.specs.declared.clmul.Half.the-variants.{Low, High}
-use Rattle.vector.specs.declared.execute.Multiplier.{Multiplier}
-use Rattle.vector.specs.declared.execute.Multiplier.the-variants.{Vs1, Scalar}
-use Rattle.vector.specs.declared.execute.Multiplicand.the-variants.{YXorX, YAlone}
+use Rattle.carryless.specs.declared.Multiplier.{Multiplier}
+use Rattle.carryless.specs.declared.Multiplier.the-variants.{Vs1, Scalar}
+use Rattle.ghash_words.specs.declared.Multiplicand.the-variants.{YXorX, YAlone}
 use Rattle.element.specs.Element.{elementAt}
-use Rattle.vector.specs.Execute.{steps, active, element, scalarOf, carrylessResult, carrylessStep, carryless, group, vvStep, vsStep, ghashVv, ghashVs, doneKnown, done, executed}
+use Rattle.carryless.specs.Steps.{steps}
+use Rattle.carryless.specs.Carryless.{active, element, scalarOf, carrylessResult, carrylessStep, carryless}
+use Rattle.ghash_words.specs.GhashWords.{group, vvStep, vsStep, ghashVv, ghashVs}
+use Rattle.vector.specs.Execute.{doneKnown, done, executed}
 use Rattle.vector.proofs.Admitted.{Admitted, admitted-as, performed}
-use Rattle.vector.proofs.Steps.{none-left}
+use Rattle.carryless.proofs.Steps.{none-left}
 use Rattle.theorems.specs.Execution.{firstUnit, pastUnit, activeUnit, unitBytes, unitPlace, unitOf, resultOf, Within, Done, WordDone}
 use Rattle.theorems.proofs.Elements.{AlignedMultiplier, elements-done}
 use Rattle.theorems.proofs.Groups.{vv-done, vs-done}

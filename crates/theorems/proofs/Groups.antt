@@ -15,10 +15,10 @@ use Rattle.gf128.proofs.Field.{product-lt}
 use Rattle.registers.specs.declared.settings.Settings.{Settings}
 use Rattle.word.specs.declared.Fields.{Fields}
 use Rattle.registers.specs.Settings.{registerBytes, groupLength}
-use Rattle.vector.specs.declared.execute.Multiplicand.{Multiplicand}
-use Rattle.vector.specs.declared.execute.Multiplicand.the-variants.{YXorX, YAlone}
+use Rattle.ghash_words.specs.declared.Multiplicand.{Multiplicand}
+use Rattle.ghash_words.specs.declared.Multiplicand.the-variants.{YXorX, YAlone}
 use Rattle.element.specs.Element.{blockPlace}
-use Rattle.vector.specs.Execute.{group, multiplicandOf, vvStep, vsStep, ghashVv, ghashVs}
+use Rattle.ghash_words.specs.GhashWords.{group, multiplicandOf, vvStep, vsStep, ghashVv, ghashVs}
 use Rattle.theorems.specs.Execution.{Done}
 use Rattle.theorems.proofs.Bytes.{beAt-same, putBlock-other}
 use Rattle.theorems.proofs.Fold.{Except, Does, fold-done}

@@ -15,7 +15,8 @@ use Rattle.word.specs.declared.Kind.the-variants.{VclmulVv, VclmulVx, VclmulhVv
 use Rattle.decoder.specs.Refusal.{isGhash}
 use Rattle.element.specs.Clmul.{clmul64, lowHalf, highHalf}
 use Rattle.element.specs.Element.{elementAt, blockPlace}
-use Rattle.vector.specs.Execute.{active, element, scalarOf, group}
+use Rattle.carryless.specs.Carryless.{active, element, scalarOf}
+use Rattle.ghash_words.specs.GhashWords.{group}
 
 -- the units that are done: from the first to before this one
 abbrev pub firstUnit : Kind → Settings → ℕ

@@ -7,8 +7,9 @@ use Rattle.word.specs.declared.Fields.{Fields}
 use Rattle.word.specs.declared.Kind.{Kind}
 use Rattle.word.specs.declared.Kind.the-variants.{VclmulVv, VclmulVx, VclmulhVv, VclmulhVx, VghshVv, VghshVs, VgmulVv, VgmulVs}
 use Rattle.element.specs.declared.clmul.Half.the-variants.{Low, High}
-use Rattle.vector.specs.declared.execute.Multiplier.the-variants.{Scalar}
-use Rattle.vector.specs.Execute.{carryless, doneKnown}
+use Rattle.carryless.specs.declared.Multiplier.the-variants.{Scalar}
+use Rattle.carryless.specs.Carryless.{carryless}
+use Rattle.vector.specs.Execute.{doneKnown}
 use borrow.Author.Needs.{needs}
 use Rattle.vector.proofs.execute.run_known.Statement.{statement}
 use Rattle.vector.proofs.execute.run_known.Tie as tie

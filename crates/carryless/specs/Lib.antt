@@ -1,0 +1,2 @@
+pub mod Carryless
+pub mod Steps
