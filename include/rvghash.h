@@ -91,6 +91,8 @@ uint32_t rvghash_degree(const uint8_t *block, size_t block_len, uint32_t *degree
 /*
  * A running hash: a message taken in pieces. Its fields are the caller's to keep and copy; no key is in it.
  * phase 0 takes A, 1 takes C, 2 is finished. open holds the bytes since the last whole block, then zeros.
+ * The struct's padding, seven bytes after phase, is never read, and any call may leave old bytes of the stack there, a
+ * refused one too: compare the fields, and clear the padding before the struct's bytes leave the process.
  */
 struct rvghash_running {
     uint64_t y_high, y_low; /* the partial hash Y, as a big-endian number's halves */

@@ -16,8 +16,8 @@ use field::block::Block;
 use field::block::Key;
 use field::block::block_at;
 use field::block::key_at_start;
-use field::product::Answer;
-use field::product::times_x;
+use plain::Answer;
+use plain::times_x;
 
 // The numbers in a key's tables: four tables of sixteen blocks, then the reductions.
 pub const TABLES: usize = 144;

@@ -1,3 +1,2 @@
-// The arithmetic of the GHASH field: blocks and keys, and their product on the plain path.
+// The elements of the GHASH field: blocks and keys.
 pub mod block;
-pub mod product;

@@ -13,8 +13,8 @@ use field::block::Block;
 use field::block::Key;
 use field::block::block_at;
 use field::block::key_at_start;
-use field::product::Answer;
-use field::product::product_plain;
+use plain::Answer;
+use plain::product_plain;
 
 // Which product a call uses: the plain path is bit by bit, the fast path four coefficients at a time.
 pub enum Path {

@@ -13,7 +13,7 @@ ghost use Rattle.inverse.specs.Inverse.{Inverts, RowsOf};
 use field::block::Block;
 use field::block::Key;
 use field::block::degree;
-use field::product::times_x;
+use plain::times_x;
 
 // The inverse of a key, which every key but the zero one has.
 pub enum Inverse {

@@ -10,8 +10,8 @@ use field::block::Block;
 use field::block::Key;
 use field::block::block_at;
 use field::block::key_at_start;
-use field::product::Answer;
-use field::product::product_plain;
+use plain::Answer;
+use plain::product_plain;
 
 // The earlier hash, or why there is no single one.
 pub enum StepBack {

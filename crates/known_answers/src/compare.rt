@@ -6,9 +6,9 @@ use crate::pieces::in_pieces;
 use crate::tally::count;
 use field::block::Block;
 use field::block::put_block;
-use field::product::Answer;
 use ghash::ghash_fast;
 use ghash::ghash_plain;
+use plain::Answer;
 
 // Whole on either path, or in pieces of some bytes.
 pub enum Way {

@@ -1,7 +1,7 @@
 // A message cut into pieces for the running hash.
 ghost use Prim.Native.Nat.{_<_, _≤_};
-use field::product::Answer;
 use ghash::Path;
+use plain::Answer;
 use running::Fed;
 use running::Finished;
 use running::fed_a_fast;

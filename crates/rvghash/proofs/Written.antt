@@ -10,7 +10,7 @@ use lib.Dec.{eqb}
 use lib.ListN.{length, drop, drop-of-length-le}
 use lib.Seq.{sets, sets-eq}
 use Rattle.field.specs.Block.{valueOf}
-use Rattle.field.specs.declared.product.Answer.{Answer}
+use Rattle.plain.specs.declared.Answer.{Answer}
 use Rattle.gf128.specs.Bytes.{blockBytes, putBlock}
 use Rattle.gf128.specs.Running.{State, finishRefusal, afterFinish, finishBlock}
 use Rattle.gf128.proofs.Bytes.{length-beBytes}

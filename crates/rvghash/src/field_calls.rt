@@ -7,8 +7,8 @@ use crate::out::put_answer;
 use fast::product_fast_bytes;
 use field::block::block_at;
 use field::block::degree;
-use field::product::product_plain_bytes;
 use inverse::step_back::step_back_bytes;
+use plain::product_plain_bytes;
 
 #[no_mangle]
 pub extern "C" fn rvghash_product_plain(key: &[u8], block: &[u8], out: &mut [u8]) -> u32

@@ -3,7 +3,7 @@ ghost use mathlib.Core.Path.{_≡_};
 ghost use Rattle.field.specs.Block.{valueOf};
 ghost use Rattle.rvghash.specs.Out.{outNumber, outBytes};
 use field::block::put_block;
-use field::product::Answer;
+use plain::Answer;
 
 // Writes an answer's block to `out`, and gives its number; an `out` not 16 bytes long is 9, and nothing is written.
 pub fn put_answer(answer: Answer, out: &mut [u8]) -> u32

@@ -6,7 +6,7 @@ ghost use Rattle.field.specs.Block.{valueOf};
 ghost use Rattle.rvghash.specs.Out.{outNumber, outBytes};
 ghost use Rattle.rvghash.specs.Lent.{FeedsA, FeedsC, FinishesInto, stateFor};
 use crate::out::put_answer;
-use field::product::Answer;
+use plain::Answer;
 use running::Fed;
 use running::Finished;
 use running::fed_a_fast;

@@ -6,8 +6,8 @@ use borrow.Author.Tests.{eq-eqb, ne-eqb}
 use lib.ListN.{length}
 use Rattle.gf128.specs.Field.{product}
 use borrow.Author.Needs.{needs}
-use Rattle.field.proofs.product.product_plain_bytes.Statement.{statement}
-use Rattle.field.proofs.product.product_plain_bytes.Tie as tie
+use Rattle.plain.proofs.product_plain_bytes.Statement.{statement}
+use Rattle.plain.proofs.product_plain_bytes.Tie as tie
 
 returns : tie.Need-returns
 returns c =

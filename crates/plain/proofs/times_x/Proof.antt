@@ -1,9 +1,9 @@
 -- `times_x` meets its contract: times x goes by the halves. Assumes nothing.
 use borrow.Author.Needs.{needs}
 use native.Mathlib.Omega.{arith}
 use Rattle.field.proofs.Halves.{moved-lt, halves-timesX}
-use Rattle.field.proofs.product.times_x.Statement.{statement}
-use Rattle.field.proofs.product.times_x.Tie as tie
+use Rattle.plain.proofs.times_x.Statement.{statement}
+use Rattle.plain.proofs.times_x.Tie as tie
 
 mul-t6 : tie.Need-mul-t6
 mul-t6 c = search needs

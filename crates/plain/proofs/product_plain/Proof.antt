@@ -4,13 +4,13 @@ use borrow.Author.Needs.{needs}
 use mathlib.Core.Path.{_≡_, refl, sym, ap, ap₂, _∙_}
 use mathlib.Core.Logic.{⊎-elim}
 use lib.Bits.{bitXor}
-use Rattle.field.proofs.Steps.{next-shifted, added, kept}
+use Rattle.plain.proofs.Steps.{next-shifted, added, kept}
 use Prim.Native.Nat.{_≤_, _-_}
 use native.Mathlib.Omega.{arith}
 use Rattle.field.specs.Block.{valueOf, keyOf}
 use Rattle.gf128.specs.Field.{sumOf, shifted, shiftedOf, timesX, reduction, productOf}
-use Rattle.field.proofs.product.product_plain.Statement.{statement}
-use Rattle.field.proofs.product.product_plain.Tie as tie
+use Rattle.plain.proofs.product_plain.Statement.{statement}
+use Rattle.plain.proofs.product_plain.Tie as tie
 
 abbrev Inv-loop : tie.InvT-loop
 Inv-loop u z₀ v₀ k₀ z v k =

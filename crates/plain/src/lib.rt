@@ -1,13 +1,13 @@
 // The plain product: document 01's definition, bit by bit.
 ghost use mathlib.Core.Path.{_≡_};
 ghost use Prim.Native.Nat.{_<_, _≤_};
 ghost use Rattle.field.specs.Block.{valueOf, keyOf};
 ghost use Rattle.gf128.specs.Entries.{productRefusal, productBlock};
 ghost use Rattle.gf128.specs.Field.{coefficient, timesX, product};
-use crate::block::Block;
-use crate::block::Key;
-use crate::block::block_at;
-use crate::block::key_at_start;
+use field::block::Block;
+use field::block::Key;
+use field::block::block_at;
+use field::block::key_at_start;
 
 // Document 01's number, and the block, which is zero where the number is not. The block stands first, so that an answer
 // is not copied in pieces that cut it.

@@ -1,9 +1,9 @@
 -- `coefficient` meets its contract: places 0 to 63 are in the high half, 64 to 127 in the low one. Assumes nothing.
 use native.Mathlib.Omega.{arith}
 use Rattle.field.proofs.Halves.{high-coefficient, low-coefficient}
 use borrow.Author.Needs.{needs}
-use Rattle.field.proofs.product.coefficient.Statement.{statement}
-use Rattle.field.proofs.product.coefficient.Tie as tie
+use Rattle.plain.proofs.coefficient.Statement.{statement}
+use Rattle.plain.proofs.coefficient.Tie as tie
 
 sub-result : tie.Need-sub-result
 sub-result c = search needs
