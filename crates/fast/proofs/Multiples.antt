@@ -8,7 +8,7 @@ use mathlib.Core.Logic.{⊎-elim}
 use Prim.Native.Nat.{ℕ, zero, suc, _+_, _-_, _*_, _/_, _%_, _^_, _<_, _≤_}
 use native.Mathlib.Nat.{zero-div, add-zero, add-assoc, add-comm, mul-assoc, mul-comm, mod-lt, eq-zero-or-pos, not-suc-le-zero}
 use native.Mathlib.Omega.{arith}
-use lib.Pow.{pow-pos, split, field, mod-mod-pow, mod-pow-add}
+use lib.Pow.{pow-pos, split, shr-shr, field, mod-mod-pow, mod-pow-add}
 use lib.Bits.{bitXor, xor-comm, xor-lt, xor-mod, xor-shifted}
 use lib.Dec.{T, eqb, eqb→eq, lit<}
 use lib.ListN.{length, getD}
@@ -43,7 +43,11 @@ reduced r l passes = record {
     test : (n : ℕ) → n < 16 → T (reduces n (getD r n 0))
     test n h = at reduces r passes n (subst (λ (x : ℕ). n < x) (sym l) h)
 
--- ---- an overflow of more coefficients, four at a time
+-- ---- four at a time
+
+-- four digits leave, after i times four of them
+pub four-leave : (u i : ℕ) {v n : ℕ} → v ≡ u / 2 ^ (4 * i) → 4 * i + 4 ≡ n → v / 2 ^ 4 ≡ u / 2 ^ n
+four-leave u i e next = ap (λ (x : ℕ). x / 2 ^ 4) e ∙ shr-shr u (4 * i) 4 ∙ ap (λ (x : ℕ). u / 2 ^ x) next
 
 -- what stays of a number that ends in k + j zeros when j of them leave
 ends : (a j k : ℕ) → a % 2 ^ (k + j) ≡ 0 → a / 2 ^ j % 2 ^ k ≡ 0
@@ -57,12 +61,12 @@ module _ (R v k l w r e : ℕ) (er : r * 2 ^ w ≡ shiftedOf R (v % 2 ^ k) k) (z
 
   moved-on : r / 2 ^ 4 * 2 ^ w ≡ shiftedOf R (r * 2 ^ w) 4
   moved-on =
-      let whole4 : r / 2 ^ 4 * 2 ^ 4 ≡ r = sym (add-zero (r / 2 ^ 4 * 2 ^ 4))
+      let whole : r / 2 ^ 4 * 2 ^ 4 ≡ r = sym (add-zero (r / 2 ^ 4 * 2 ^ 4))
       ∙ ap (λ (x : ℕ). r / 2 ^ 4 * 2 ^ 4 + x) (sym (sym (mod-mod-pow r l 4) ∙ ap (λ (x : ℕ). x % 2 ^ 4) zr)) ∙ split r 4 in
       sym (shiftedOf-multiple R (r / 2 ^ 4 * 2 ^ w) 4)
       ∙ ap (λ (x : ℕ). shiftedOf R x 4)
       (mul-assoc (r / 2 ^ 4) (2 ^ w) (2 ^ 4) ∙ ap (λ (x : ℕ). r / 2 ^ 4 * x) (mul-comm (2 ^ w) (2 ^ 4))
-      ∙ sym (mul-assoc (r / 2 ^ 4) (2 ^ 4) (2 ^ w)) ∙ ap (λ (x : ℕ). x * 2 ^ w) whole4)
+      ∙ sym (mul-assoc (r / 2 ^ 4) (2 ^ 4) (2 ^ w)) ∙ ap (λ (x : ℕ). x * 2 ^ w) whole)
 
   pub overflow-more : e * 2 ^ w ≡ shiftedOf R (v / 2 ^ k % 2 ^ 4) 4 → bitXor (r / 2 ^ 4) e * 2 ^ w ≡ shiftedOf R (v % 2 ^ (k + 4)) (k + 4)
   overflow-more ee =

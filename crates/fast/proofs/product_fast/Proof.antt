@@ -5,12 +5,13 @@ use Prim.Native.Nat.{ℕ, _+_, _-_, _*_, _/_, _%_, _^_, _≤_, _<_}
 use native.Mathlib.Nat.{div-one, mod-lt}
 use native.Mathlib.Omega.{arith}
 use lib.Bits.{bitXor}
-use lib.Pow.{pow-pos, shr-lt, shr-shr, split}
+use lib.Pow.{pow-pos, shr-lt, split}
 use borrow.Author.Needs.{needs}
 use Rattle.gf128.specs.Field.{reduction, shiftedOf, shifted, product}
 use Rattle.gf128.proofs.Chain.{chain, chain-start, chain-step, chain-end}
 use Rattle.field.specs.Block.{valueOf}
 use Rattle.fast.specs.Table.{TableOf, nibble, entriesOf}
+use Rattle.fast.proofs.Multiples.{four-leave}
 use Rattle.fast.proofs.product_fast.Statement.{statement}
 use Rattle.fast.proofs.product_fast.Tie as tie
 
@@ -26,10 +27,6 @@ Inv-loop t high low a₀ b₀ c₀ d₀ z₀ e₀ i₀ a b c d z e i =
 
 abbrev μ-loop : tie.MeasureT-loop
 μ-loop t high low a₀ b₀ c₀ d₀ z₀ e₀ i₀ a b c d z e i = 7 - i
-
--- four digits leave a quarter
-left : (u i : ℕ) {v n : ℕ} → v ≡ u / 2 ^ (4 * i) → 4 * i + 4 ≡ n → v / 2 ^ 4 ≡ u / 2 ^ n
-left u i e next = ap (λ (x : ℕ). x / 2 ^ 4) e ∙ shr-shr u (4 * i) 4 ∙ ap (λ (x : ℕ). u / 2 ^ x) next
 
 -- one step of the chain
 module _ (h a₀ b₀ c₀ d₀ a b c d z e i : ℕ) (ea : a ≡ a₀ / 2 ^ (4 * i)) (eb : b ≡ b₀ / 2 ^ (4 * i)) (ec : c ≡ c₀ / 2 ^ (4 * i)) (ed : d ≡ d₀ / 2 ^ (4 * i))
@@ -88,10 +85,10 @@ loop-again c =
     let inv = at-loop .loop .inv in
     let next : 4 * i + 4 ≡ 4 * (i + 1) = omega arith in (
       omega arith,
-      left _ i (inv .1) next,
-      left _ i (inv .2) next,
-      left _ i (inv .3) next,
-      left _ i (inv .4) next,
+      four-leave _ i (inv .1) next,
+      four-leave _ i (inv .2) next,
+      four-leave _ i (inv .3) next,
+      four-leave _ i (inv .4) next,
       λ h table.
           c .before .xor .ensures
           ∙ ap (λ (x : ℕ). bitXor x (valueOf (at-loop .loop .e))) (c .before .before .times-x4 .ensures (table .whole .reductions))

@@ -5,12 +5,12 @@ use Prim.Native.Nat.{ℕ, _+_, _-_, _*_, _/_, _%_, _^_, _≤_, _<_}
 use native.Mathlib.Nat.{div-one, mod-one, zero-mod}
 use native.Mathlib.Omega.{arith}
 use lib.ListN.{getD}
-use lib.Pow.{shr-shr, mod-mod-pow}
+use lib.Pow.{mod-mod-pow}
 use denote.Ref.{now}
 use borrow.Author.Needs.{needs}
 use Rattle.gf128.specs.Field.{reduction, shiftedOf, shifted}
 use Rattle.fast.specs.Table.{ReductionsIn}
-use Rattle.fast.proofs.Multiples.{overflow-ends, overflow-more}
+use Rattle.fast.proofs.Multiples.{four-leave, overflow-ends, overflow-more}
 use Rattle.fast.proofs.reduced.Statement.{statement}
 use Rattle.fast.proofs.reduced.Tie as tie
 
@@ -57,7 +57,7 @@ loop-again c =
     let next : 4 * i + 4 ≡ 4 * (i + 1) = omega arith in
     let zeros : 32 - 4 * i ≡ 32 - 4 * (i + 1) + 4 = omega arith in (
       omega arith,
-      ap (λ (x : ℕ). x / 2 ^ 4) (inv .1) ∙ shr-shr v (4 * i) 4 ∙ ap (λ (x : ℕ). v / 2 ^ x) next,
+      four-leave v i (inv .1) next,
       λ reductions.
           let n = rest % 16 in
           let e = getD (now t) (128 + n) 0 in
