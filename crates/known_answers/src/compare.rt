@@ -1,4 +1,5 @@
 // Answers compared with what they should be, and the ways to hash a message.
+ghost use mathlib.Core.Bool.{true};
 ghost use mathlib.Core.Path.{_≡_};
 ghost use lib.ListN.{length};
 use crate::pieces::Mix;
@@ -26,7 +27,9 @@ fn hash(way: Way, key: &[u8], a: &[u8], c: &[u8]) -> Answer {
 }
 
 // Whether both are the same bytes.
-pub fn same(a: &[u8], b: &[u8]) -> bool {
+pub fn same(a: &[u8], b: &[u8]) -> bool
+    ensures { λ r. ⌜ (r ≡ true → now (a .entry) ≡ now (b .entry)) × (now (a .entry) ≡ now (b .entry) → r ≡ true) ⌝ }
+{
     if a.len() != b.len() {
         return false;
     }
