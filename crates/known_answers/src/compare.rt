@@ -1,6 +1,8 @@
 // Answers compared with what they should be, and the ways to hash a message.
-ghost use mathlib.Core.Bool.{true};
+ghost use mathlib.Core.Bool.{true, cond, _&&_};
 ghost use mathlib.Core.Path.{_≡_};
+ghost use Prim.Native.Nat.{_+_, _%_, _^_};
+ghost use lib.Dec.{eqb};
 ghost use lib.ListN.{length};
 use crate::pieces::Mix;
 use crate::pieces::in_pieces;
@@ -53,7 +55,10 @@ pub fn bytes(b: Block) -> [u8; 16]
 }
 
 // Counts the answer if it is this number with this block.
-pub fn answer(agreed: u64, a: Answer, number: u32, block: Block) -> u64 {
+pub fn answer(agreed: u64, a: Answer, number: u32, block: Block) -> u64
+    ensures { λ r. ⌜ r ≡ cond ((eqb (a .number) number && eqb (a .block .0) (block .0)) && eqb (a .block .1) (block .1))
+        ((agreed + 1) % 2 ^ 64) agreed ⌝ }
+{
     let b = a.block;
     count(
         agreed,

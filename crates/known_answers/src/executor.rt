@@ -166,24 +166,29 @@ fn settings_and_file_lengths() {
     report(b"VLEN, SEW, LMUL and the length of the file", n, 19);
 }
 
+// One register of four elements: what document 01 gives for the word itself.
+fn word_case(agreed: u64, word: u32, number: u32) -> u64 {
+    case(agreed, word, 512, 128, 32, 1, 4, 0, number)
+}
+
 // None of the eight words, vs2 equal to vd in a .vs word, register 0 in a masked word, and for each the nearest word that is done.
 fn numbers_of_words() {
     let mut n: u64 = 0;
-    n = case(n, 0x00000000, 512, 128, 32, 1, 4, 0, 2);
-    n = case(n, 0xFFFFFFFF, 512, 128, 32, 1, 4, 0, 2);
-    n = case(n, 0xB30C2476, 512, 128, 32, 1, 4, 0, 2);
-    n = case(n, 0xB10C2477, 512, 128, 32, 1, 4, 0, 2);
-    n = case(n, 0xA3082477, 512, 128, 32, 1, 4, 0, 2);
-    n = case(n, 0xA688A477, 512, 128, 32, 1, 4, 0, 7);
-    n = case(n, 0xA288A477, 512, 128, 32, 1, 4, 0, 0);
-    n = case(n, 0x8E8C2477, 512, 128, 32, 1, 4, 0, 7);
-    n = case(n, 0xB28C2477, 512, 128, 32, 1, 4, 0, 0);
-    n = case(n, 0x310C2057, 512, 128, 32, 1, 4, 0, 8);
-    n = case(n, 0x330C2057, 512, 128, 32, 1, 4, 0, 0);
-    n = case(n, 0x300C2457, 512, 128, 32, 1, 4, 0, 8);
-    n = case(n, 0x31002457, 512, 128, 32, 1, 4, 0, 8);
-    n = case(n, 0x31006457, 512, 128, 32, 1, 4, 0, 0);
-    n = case(n, 0x310C2457, 512, 128, 32, 1, 4, 0, 0);
+    n = word_case(n, 0x00000000, 2);
+    n = word_case(n, 0xFFFFFFFF, 2);
+    n = word_case(n, 0xB30C2476, 2);
+    n = word_case(n, 0xB10C2477, 2);
+    n = word_case(n, 0xA3082477, 2);
+    n = word_case(n, 0xA688A477, 7);
+    n = word_case(n, 0xA288A477, 0);
+    n = word_case(n, 0x8E8C2477, 7);
+    n = word_case(n, 0xB28C2477, 0);
+    n = word_case(n, 0x310C2057, 8);
+    n = word_case(n, 0x330C2057, 0);
+    n = word_case(n, 0x300C2457, 8);
+    n = word_case(n, 0x31002457, 8);
+    n = word_case(n, 0x31006457, 0);
+    n = word_case(n, 0x310C2457, 0);
     report(b"Numbers 2, 7 and 8", n, 15);
 }
 

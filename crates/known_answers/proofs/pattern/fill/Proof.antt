@@ -13,7 +13,7 @@ use Rattle.known_answers.proofs.pattern.fill.Statement.{statement}
 use Rattle.known_answers.proofs.pattern.fill.Tie as tie
 
 abbrev Inv-loop : tie.InvT-loop
-Inv-loop p s₀ b₀ i₀ s b i = 
+Inv-loop p s₀ b₀ i₀ s b i =
     (i ≤ length s) × (length s ≡ length s₀) × (b ≡ numberAt p i) × ((k : ℕ) → k < i → getD s k 0 ≡ byteAt p k)
 
 abbrev μ-loop : tie.MeasureT-loop
