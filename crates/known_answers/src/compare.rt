@@ -7,11 +7,11 @@ ghost use lib.ListN.{length};
 use crate::pieces::Mix;
 use crate::pieces::in_pieces;
 use crate::tally::count;
-use field::block::Block;
-use field::block::put_block;
-use ghash::ghash_fast;
-use ghash::ghash_plain;
-use plain::Answer;
+use ghash_block::block::Block;
+use ghash_block::block::put_block;
+use ghash_plain::Answer;
+use ghash_whole::ghash_fast;
+use ghash_whole::ghash_plain;
 
 // Whole on either path, or in pieces of some bytes.
 pub enum Way {

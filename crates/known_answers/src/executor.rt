@@ -5,9 +5,9 @@ use crate::pattern::fill;
 use crate::pattern::is_filled;
 use crate::tally::count;
 use crate::tally::report;
-use registers::group::group_refusal;
-use registers::settings::Settings;
-use vector::execute::execute;
+use vector_execute::execute::execute;
+use vector_registers::group::group_refusal;
+use vector_registers::settings::Settings;
 
 // Words on v8, v16 and v24.
 const VCLMUL_VV: u32 = 0x330C2457;

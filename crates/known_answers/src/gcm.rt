@@ -6,8 +6,8 @@ use crate::compare::hash_answer;
 use crate::data_file::read;
 use crate::pieces::Mix;
 use crate::tally::report;
-use element::element::read_le;
-use field::block::block_at;
+use ghash_block::block::block_at;
+use vector_element::element::read_le;
 
 // The records that agree so far, and where the next one starts.
 struct Place {

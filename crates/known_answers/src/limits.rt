@@ -7,9 +7,9 @@ use crate::pattern::Pattern;
 use crate::pattern::fill;
 use crate::pieces::Mix;
 use crate::tally::report;
-use field::block::Block;
-use field::block::block_at;
-use ghash::LIMIT;
+use ghash_block::block::Block;
+use ghash_block::block::block_at;
+use ghash_whole::LIMIT;
 
 const OF_A: Pattern = Pattern(3, 7, 251);
 

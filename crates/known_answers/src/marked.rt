@@ -5,14 +5,14 @@ use crate::compare::hash_answer;
 use crate::executor::element_becomes;
 use crate::tally;
 use crate::tally::count;
-use fast::product_fast_bytes;
-use field::block::Block;
-use inverse::step_back::step_back_bytes;
+use ghash_block::block::Block;
+use ghash_fast::product_fast_bytes;
+use ghash_inverse::step_back::step_back_bytes;
+use ghash_plain::product_plain_bytes;
 use libc::STDOUT_FILENO;
-use plain::product_plain_bytes;
-use word::Kind;
-use word::Word;
-use word::decode;
+use vector_word::Kind;
+use vector_word::Word;
+use vector_word::decode;
 
 // vclmul.vv v1, v2, v3 and vclmulh.vv v1, v2, v3.
 const VCLMUL: u32 = 0x3221A0D7;

@@ -1,16 +1,16 @@
 // A message cut into pieces for the running hash.
 ghost use Prim.Native.Nat.{_<_, _≤_};
-use ghash::Path;
-use plain::Answer;
-use running::Fed;
-use running::Finished;
-use running::fed_a_fast;
-use running::fed_a_plain;
-use running::fed_c_fast;
-use running::fed_c_plain;
-use running::finished_fast;
-use running::finished_plain;
-use running_state::Running;
+use ghash_plain::Answer;
+use ghash_running::Fed;
+use ghash_running::Finished;
+use ghash_running::fed_a_fast;
+use ghash_running::fed_a_plain;
+use ghash_running::fed_c_fast;
+use ghash_running::fed_c_plain;
+use ghash_running::finished_fast;
+use ghash_running::finished_plain;
+use ghash_state::Running;
+use ghash_whole::Path;
 
 // Which path each call takes.
 pub enum Mix {

@@ -9,17 +9,17 @@ use borrow.Author.Tests.{eq-eqb, ne-eqb, le-leb}
 use lib.Dec.{eqb}
 use lib.ListN.{length, drop, drop-of-length-le}
 use lib.Seq.{sets, sets-eq}
-use Rattle.field.specs.Block.{valueOf}
-use Rattle.plain.specs.declared.Answer.{Answer}
+use Rattle.ghash_block.specs.Block.{valueOf}
+use Rattle.ghash_plain.specs.declared.Answer.{Answer}
 use Rattle.gf128.specs.Bytes.{blockBytes, putBlock}
 use Rattle.gf128.specs.Running.{State, finishRefusal, afterFinish, finishBlock}
 use Rattle.gf128.proofs.Bytes.{length-beBytes}
-use Rattle.running_state.specs.State.{view}
-use Rattle.running.specs.Answers.{Feeds, Finishes}
-use Rattle.running_state.specs.declared.Running.{Running}
-use Rattle.running.specs.declared.Finished.{Finished}
+use Rattle.ghash_state.specs.State.{view}
+use Rattle.ghash_running.specs.Answers.{Feeds, Finishes}
+use Rattle.ghash_state.specs.declared.Running.{Running}
+use Rattle.ghash_running.specs.declared.Finished.{Finished}
 use Rattle.rvghash.specs.Lent.{stateFor}
-use Rattle.inverse.specs.StepBack.{StepsBackBytes}
+use Rattle.ghash_inverse.specs.StepBack.{StepsBackBytes}
 use Rattle.rvghash.specs.StepBack.{StepsBackInto}
 use Rattle.rvghash.specs.Out.{outNumber, outBytes, finishNumber, finishState, finishOut}
 

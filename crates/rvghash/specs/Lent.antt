@@ -7,9 +7,9 @@ use mathlib.Core.List.{List}
 use lib.Dec.{eqb}
 use lib.ListN.{length}
 use Rattle.gf128.specs.Running.{feedARefusal, feedCRefusal, afterFeedA, afterFeedC}
-use Rattle.running_state.specs.State.{view}
-use Rattle.running.specs.Answers.{Feeds}
-use Rattle.running_state.specs.declared.Running.{Running}
+use Rattle.ghash_state.specs.State.{view}
+use Rattle.ghash_running.specs.Answers.{Feeds}
+use Rattle.ghash_state.specs.declared.Running.{Running}
 use Rattle.rvghash.specs.Out.{finishNumber, finishState, finishOut}
 
 -- a piece of A

@@ -5,7 +5,7 @@ use mathlib.Core.List.{List}
 use Prim.Native.Nat.{ℕ}
 use lib.ListN.{length}
 use Rattle.gf128.specs.Bytes.{blockBytes}
-use Rattle.inverse.specs.StepBack.{StepsBackBytes}
+use Rattle.ghash_inverse.specs.StepBack.{StepsBackBytes}
 
 -- an `out` not 16 bytes long is 9 and stays; else it holds the bytes of a block that the step back's answer promises
 pub record StepsBackInto (key block later out : List ℕ) (number : ℕ) (out′ : List ℕ) : Type 0 where

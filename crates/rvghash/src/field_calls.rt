@@ -4,11 +4,11 @@ ghost use Rattle.rvghash.specs.Out.{outNumber, outBytes, degreeNumber, d
 ghost use Rattle.rvghash.specs.StepBack.{StepsBackInto};
 ghost use Rattle.gf128.specs.Entries.{productRefusal, productBlock};
 use crate::out::put_answer;
-use fast::product_fast_bytes;
-use field::block::block_at;
-use field::block::degree;
-use inverse::step_back::step_back_bytes;
-use plain::product_plain_bytes;
+use ghash_block::block::block_at;
+use ghash_block::block::degree;
+use ghash_fast::product_fast_bytes;
+use ghash_inverse::step_back::step_back_bytes;
+use ghash_plain::product_plain_bytes;
 
 #[no_mangle]
 pub extern "C" fn rvghash_product_plain(key: &[u8], block: &[u8], out: &mut [u8]) -> u32
@@ -34,7 +34,7 @@ pub extern "C" fn rvghash_degree(block: &[u8], degree: &mut u32) -> u32
         *degree = 0;
         return 9;
     }
-    let d = field::block::degree(block_at(block, 0));
+    let d = ghash_block::block::degree(block_at(block, 0));
     *degree = d.place;
     d.number
 }

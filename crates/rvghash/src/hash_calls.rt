@@ -3,8 +3,8 @@ ghost use mathlib.Core.Path.{_≡_};
 ghost use Rattle.rvghash.specs.Out.{outNumber, outBytes};
 ghost use Rattle.gf128.specs.Entries.{hashRefusal, hashBlock};
 use crate::out::put_answer;
-use ghash::ghash_fast;
-use ghash::ghash_plain;
+use ghash_whole::ghash_fast;
+use ghash_whole::ghash_plain;
 
 #[no_mangle]
 pub extern "C" fn rvghash_ghash_plain(key: &[u8], a: &[u8], c: &[u8], out: &mut [u8]) -> u32

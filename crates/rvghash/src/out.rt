@@ -1,9 +1,9 @@
 // Writing a block to a lent `out`.
 ghost use mathlib.Core.Path.{_≡_};
-ghost use Rattle.field.specs.Block.{valueOf};
+ghost use Rattle.ghash_block.specs.Block.{valueOf};
 ghost use Rattle.rvghash.specs.Out.{outNumber, outBytes};
-use field::block::put_block;
-use plain::Answer;
+use ghash_block::block::put_block;
+use ghash_plain::Answer;
 
 // Writes an answer's block to `out`, and gives its number; an `out` not 16 bytes long is 9, and nothing is written.
 pub fn put_answer(answer: Answer, out: &mut [u8]) -> u32

@@ -1,21 +1,21 @@
 // The running hash that the caller lends, updated where it lies. Each function hands it by value to one that does the work.
 ghost use mathlib.Core.Path.{_≡_};
 ghost use Rattle.gf128.specs.Running.{fresh};
-ghost use Rattle.running_state.specs.State.{view};
-ghost use Rattle.field.specs.Block.{valueOf};
+ghost use Rattle.ghash_state.specs.State.{view};
+ghost use Rattle.ghash_block.specs.Block.{valueOf};
 ghost use Rattle.rvghash.specs.Out.{outNumber, outBytes};
 ghost use Rattle.rvghash.specs.Lent.{FeedsA, FeedsC, FinishesInto, stateFor};
 use crate::out::put_answer;
-use plain::Answer;
-use running::Fed;
-use running::Finished;
-use running::fed_a_fast;
-use running::fed_a_plain;
-use running::fed_c_fast;
-use running::fed_c_plain;
-use running::finished_fast;
-use running::finished_plain;
-use running_state::Running;
+use ghash_plain::Answer;
+use ghash_running::Fed;
+use ghash_running::Finished;
+use ghash_running::fed_a_fast;
+use ghash_running::fed_a_plain;
+use ghash_running::fed_c_fast;
+use ghash_running::fed_c_plain;
+use ghash_running::finished_fast;
+use ghash_running::finished_plain;
+use ghash_state::Running;
 
 // Makes the lent running hash a fresh one.
 #[no_mangle]

@@ -1,13 +1,13 @@
 // The executor and the group question.
 ghost use mathlib.Core.Path.{_≡_};
 ghost use lib.ListN.{length};
-ghost use Rattle.registers.specs.Group.{groupRefusal};
-ghost use Rattle.decoder.specs.Refusal.{refusalOf};
-ghost use Rattle.vector.specs.Execute.{executed, vstartAfter};
+ghost use Rattle.vector_registers.specs.Group.{groupRefusal};
+ghost use Rattle.vector_refusal.specs.Refusal.{refusalOf};
+ghost use Rattle.vector_execute.specs.Execute.{executed, vstartAfter};
 ghost use Rattle.rvghash.specs.Call.{settingsOf};
-use registers::group::group_refusal;
-use registers::settings::Settings;
-use vector::execute::execute;
+use vector_execute::execute::execute;
+use vector_registers::group::group_refusal;
+use vector_registers::settings::Settings;
 
 #[no_mangle]
 pub extern "C" fn rvghash_execute(

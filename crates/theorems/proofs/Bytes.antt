@@ -13,7 +13,7 @@ use lib.ListN.{length, getD, set, length-set}
 use lib.Seq.{sets, getD-set-same, getD-set-other}
 use Rattle.gf128.specs.Bytes.{beAt, blockBytes, putBlock}
 use Rattle.gf128.proofs.Bytes.{length-beBytes}
-use Rattle.element.specs.Element.{readLe, writeLe}
+use Rattle.vector_element.specs.Element.{readLe, writeLe}
 use Rattle.theorems.specs.Execution.{Within}
 
 -- ---- what is read

@@ -11,16 +11,16 @@ use borrow.Author.Tests.{eqb-false}
 use lib.Dec.{eqb}
 use lib.ListN.{length}
 use lib.Pow.{pow-add, pow-pos}
-use Rattle.registers.specs.declared.settings.Settings.{Settings}
-use Rattle.word.specs.declared.Fields.{Fields}
-use Rattle.registers.specs.Settings.{registerBytes, groupLength}
-use Rattle.element.specs.declared.clmul.Half.{Half}
-use Rattle.element.specs.declared.clmul.Half.the-variants.{Low, High}
-use Rattle.carryless.specs.declared.Multiplier.{Multiplier}
-use Rattle.carryless.specs.declared.Multiplier.the-variants.{Vs1, Scalar}
-use Rattle.element.specs.Clmul.{halfOf, clmul64}
-use Rattle.element.specs.Element.{readLe, writeLe, elementAt, maskBit}
-use Rattle.carryless.specs.Carryless.{active, element, multiplierOf, carrylessResult, carrylessStep, carryless}
+use Rattle.vector_registers.specs.declared.settings.Settings.{Settings}
+use Rattle.vector_word.specs.declared.Fields.{Fields}
+use Rattle.vector_registers.specs.Settings.{registerBytes, groupLength}
+use Rattle.vector_element.specs.declared.clmul.Half.{Half}
+use Rattle.vector_element.specs.declared.clmul.Half.the-variants.{Low, High}
+use Rattle.vector_clmul.specs.declared.Multiplier.{Multiplier}
+use Rattle.vector_clmul.specs.declared.Multiplier.the-variants.{Vs1, Scalar}
+use Rattle.vector_element.specs.Clmul.{halfOf, clmul64}
+use Rattle.vector_element.specs.Element.{readLe, writeLe, elementAt, maskBit}
+use Rattle.vector_clmul.specs.Carryless.{active, element, multiplierOf, carrylessResult, carrylessStep, carryless}
 use Rattle.theorems.specs.Execution.{Done}
 use Rattle.theorems.proofs.Bytes.{readLe-same, writeLe-length, writeLe-other, writeLe-read}
 use Rattle.theorems.proofs.Fold.{Except, Does, fold-done}

@@ -11,28 +11,28 @@ use native.Mathlib.Omega.{arith}
 use borrow.Author.Tests.{eqb-true, eqb-false, eq-eqb, not-false}
 use lib.Dec.{eqb}
 use lib.ListN.{length, getD}
-use Rattle.registers.specs.declared.settings.Settings.{Settings}
-use Rattle.word.specs.declared.Fields.{Fields}
-use Rattle.word.specs.declared.Kind.{Kind}
-use Rattle.word.specs.declared.Kind.the-variants.{VclmulVv, VclmulVx, VclmulhVv, VclmulhVx, VghshVv, VghshVs, VgmulVv, VgmulVs}
-use Rattle.word.specs.declared.Word.{Word}
-use Rattle.word.specs.declared.Word.the-variants.{Known, Unknown}
-use Rattle.registers.specs.Settings.{misaligned}
-use Rattle.decoder.specs.Refusal.{isVs, hasVs1Group, refusalOf}
-use Rattle.word.specs.Word.{decode}
-use Rattle.word.proofs.Tests.{or-false}
-use Rattle.element.specs.declared.clmul.Half.{Half}
-use Rattle.element.specs.declared.clmul.Half.the-variants.{Low, High}
-use Rattle.carryless.specs.declared.Multiplier.{Multiplier}
-use Rattle.carryless.specs.declared.Multiplier.the-variants.{Vs1, Scalar}
-use Rattle.ghash_words.specs.declared.Multiplicand.the-variants.{YXorX, YAlone}
-use Rattle.element.specs.Element.{elementAt}
-use Rattle.carryless.specs.Steps.{steps}
-use Rattle.carryless.specs.Carryless.{active, element, scalarOf, carrylessResult, carrylessStep, carryless}
-use Rattle.ghash_words.specs.GhashWords.{group, vvStep, vsStep, ghashVv, ghashVs}
-use Rattle.vector.specs.Execute.{doneKnown, done, executed}
-use Rattle.vector.proofs.Admitted.{Admitted, admitted-as, performed}
-use Rattle.carryless.proofs.Steps.{none-left}
+use Rattle.vector_registers.specs.declared.settings.Settings.{Settings}
+use Rattle.vector_word.specs.declared.Fields.{Fields}
+use Rattle.vector_word.specs.declared.Kind.{Kind}
+use Rattle.vector_word.specs.declared.Kind.the-variants.{VclmulVv, VclmulVx, VclmulhVv, VclmulhVx, VghshVv, VghshVs, VgmulVv, VgmulVs}
+use Rattle.vector_word.specs.declared.Word.{Word}
+use Rattle.vector_word.specs.declared.Word.the-variants.{Known, Unknown}
+use Rattle.vector_registers.specs.Settings.{misaligned}
+use Rattle.vector_refusal.specs.Refusal.{isVs, hasVs1Group, refusalOf}
+use Rattle.vector_word.specs.Word.{decode}
+use Rattle.vector_word.proofs.Tests.{or-false}
+use Rattle.vector_element.specs.declared.clmul.Half.{Half}
+use Rattle.vector_element.specs.declared.clmul.Half.the-variants.{Low, High}
+use Rattle.vector_clmul.specs.declared.Multiplier.{Multiplier}
+use Rattle.vector_clmul.specs.declared.Multiplier.the-variants.{Vs1, Scalar}
+use Rattle.vector_ghash.specs.declared.Multiplicand.the-variants.{YXorX, YAlone}
+use Rattle.vector_element.specs.Element.{elementAt}
+use Rattle.vector_clmul.specs.Steps.{steps}
+use Rattle.vector_clmul.specs.Carryless.{active, element, scalarOf, carrylessResult, carrylessStep, carryless}
+use Rattle.vector_ghash.specs.GhashWords.{group, vvStep, vsStep, ghashVv, ghashVs}
+use Rattle.vector_execute.specs.Execute.{doneKnown, done, executed}
+use Rattle.vector_execute.proofs.Admitted.{Admitted, admitted-as, performed}
+use Rattle.vector_clmul.proofs.Steps.{none-left}
 use Rattle.theorems.specs.Execution.{firstUnit, pastUnit, activeUnit, unitBytes, unitPlace, unitOf, resultOf, Within, Done, WordDone}
 use Rattle.theorems.proofs.Elements.{AlignedMultiplier, elements-done}
 use Rattle.theorems.proofs.Groups.{vv-done, vs-done}

@@ -12,13 +12,13 @@ use Rattle.gf128.specs.Bytes.{blockAt, putBlock}
 use Rattle.gf128.specs.Field.{product}
 use Rattle.gf128.proofs.Bytes.{beAt-lt, blockAt-putBlock, length-putBlock}
 use Rattle.gf128.proofs.Field.{product-lt}
-use Rattle.registers.specs.declared.settings.Settings.{Settings}
-use Rattle.word.specs.declared.Fields.{Fields}
-use Rattle.registers.specs.Settings.{registerBytes, groupLength}
-use Rattle.ghash_words.specs.declared.Multiplicand.{Multiplicand}
-use Rattle.ghash_words.specs.declared.Multiplicand.the-variants.{YXorX, YAlone}
-use Rattle.element.specs.Element.{blockPlace}
-use Rattle.ghash_words.specs.GhashWords.{group, multiplicandOf, vvStep, vsStep, ghashVv, ghashVs}
+use Rattle.vector_registers.specs.declared.settings.Settings.{Settings}
+use Rattle.vector_word.specs.declared.Fields.{Fields}
+use Rattle.vector_registers.specs.Settings.{registerBytes, groupLength}
+use Rattle.vector_ghash.specs.declared.Multiplicand.{Multiplicand}
+use Rattle.vector_ghash.specs.declared.Multiplicand.the-variants.{YXorX, YAlone}
+use Rattle.vector_element.specs.Element.{blockPlace}
+use Rattle.vector_ghash.specs.GhashWords.{group, multiplicandOf, vvStep, vsStep, ghashVv, ghashVs}
 use Rattle.theorems.specs.Execution.{Done}
 use Rattle.theorems.proofs.Bytes.{beAt-same, putBlock-other}
 use Rattle.theorems.proofs.Fold.{Except, Does, fold-done}

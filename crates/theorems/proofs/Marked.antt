@@ -18,12 +18,12 @@ use Rattle.gf128.proofs.Field.{inverseOf, inverse-lt, inverse-product}
 use Rattle.gf128.proofs.Places.{and-left, and-right}
 use Rattle.gf128.proofs.Solve.{earlier, earlier-only}
 use Rattle.gf128.proofs.StepBack.{steps-back, steps-none, steps-many}
-use Rattle.word.specs.declared.Kind.{Kind}
-use Rattle.word.specs.declared.Kind.the-variants.{VclmulVv, VclmulVx, VclmulhVv, VclmulhVx, VghshVv, VghshVs, VgmulVv, VgmulVs}
-use Rattle.word.specs.declared.Word.{Word}
-use Rattle.word.specs.declared.Word.the-variants.{Known, Unknown}
-use Rattle.word.specs.Word.{decode, kinds}
-use Rattle.element.specs.Clmul.{clmul, clmul64, lowHalf, highHalf}
+use Rattle.vector_word.specs.declared.Kind.{Kind}
+use Rattle.vector_word.specs.declared.Kind.the-variants.{VclmulVv, VclmulVx, VclmulhVv, VclmulhVx, VghshVv, VghshVs, VgmulVv, VgmulVs}
+use Rattle.vector_word.specs.declared.Word.{Word}
+use Rattle.vector_word.specs.declared.Word.the-variants.{Known, Unknown}
+use Rattle.vector_word.specs.Word.{decode, kinds}
+use Rattle.vector_element.specs.Clmul.{clmul, clmul64, lowHalf, highHalf}
 use Rattle.theorems.specs.Marked.{Case, carryless, times, back, word, hash, table, Holds, AllHold, MarkedCasesHold}
 
 -- ---- the test: the numbers that the written rules give are the numbers that the case says

@@ -12,8 +12,8 @@ use lib.Arith.{lt-one}
 use lib.Bits.{bitXor, xor-lt, xor-mod, xor-shr, xor-zero-r, xor-block, xor-shifted, xor-comm}
 use lib.Pow.{pow-add, pow-pos, pow-mono, shl-lt, shr-mod, recompose, mod-pow-add, mod-mod-pow, field}
 use Rattle.gf128.proofs.Xor.{xor-swap4}
-use Rattle.element.specs.Clmul.{clmul, clmul64, lowHalf, highHalf}
-use Rattle.element.proofs.Carryless.{bitOf, bit-lt, scale-lt}
+use Rattle.vector_element.specs.Clmul.{clmul, clmul64, lowHalf, highHalf}
+use Rattle.vector_element.proofs.Carryless.{bitOf, bit-lt, scale-lt}
 
 -- ---- bits past the width are zeros
 

@@ -11,16 +11,16 @@ use native.Mathlib.Nat.{le-div-iff-mul-le, div-add-mod', mul-le-mul-right, suc-m
 use native.Mathlib.Omega.{arith}
 use borrow.Author.Tests.{eqb-true, ltb-false, not-false}
 use lib.Dec.{eqb, ltb}
-use Rattle.registers.specs.declared.settings.Settings.{Settings}
-use Rattle.word.specs.declared.Fields.{Fields}
-use Rattle.word.specs.declared.Kind.{Kind}
-use Rattle.word.specs.declared.Word.the-variants.{Known}
-use Rattle.registers.specs.Settings.{applies1, applies3, registerBytes, fileBytes, groupLength, vlenAllowed, sewAllowed, lmulAllowed, vlmax, misaligned}
-use Rattle.word.specs.Word.{among, kinds, decode, isRow, row, fieldsOf}
-use Rattle.registers.proofs.Allowed.{vlen-cases, lmul-cases}
-use Rattle.registers.proofs.Groups.{last-register, registers-within}
-use Rattle.word.proofs.Tests.{or-false}
-use Rattle.element.proofs.Sew.{sew-cases, sew-facts}
+use Rattle.vector_registers.specs.declared.settings.Settings.{Settings}
+use Rattle.vector_word.specs.declared.Fields.{Fields}
+use Rattle.vector_word.specs.declared.Kind.{Kind}
+use Rattle.vector_word.specs.declared.Word.the-variants.{Known}
+use Rattle.vector_registers.specs.Settings.{applies1, applies3, registerBytes, fileBytes, groupLength, vlenAllowed, sewAllowed, lmulAllowed, vlmax, misaligned}
+use Rattle.vector_word.specs.Word.{among, kinds, decode, isRow, row, fieldsOf}
+use Rattle.vector_registers.proofs.Allowed.{vlen-cases, lmul-cases}
+use Rattle.vector_registers.proofs.Groups.{last-register, registers-within}
+use Rattle.vector_word.proofs.Tests.{or-false}
+use Rattle.vector_element.proofs.Sew.{sew-cases, sew-facts}
 use Rattle.theorems.specs.Execution.{Within}
 
 -- ---- what the settings tell

@@ -8,15 +8,15 @@ use mathlib.Core.Path.{_≡_}
 use lib.Bits.{bitXor}
 use lib.ListN.{length, getD}
 use Rattle.gf128.specs.Field.{product}
-use Rattle.registers.specs.declared.settings.Settings.{Settings}
-use Rattle.word.specs.declared.Fields.{Fields}
-use Rattle.word.specs.declared.Kind.{Kind}
-use Rattle.word.specs.declared.Kind.the-variants.{VclmulVv, VclmulVx, VclmulhVv, VclmulhVx, VghshVv, VghshVs, VgmulVv, VgmulVs}
-use Rattle.decoder.specs.Refusal.{isGhash}
-use Rattle.element.specs.Clmul.{clmul64, lowHalf, highHalf}
-use Rattle.element.specs.Element.{elementAt, blockPlace}
-use Rattle.carryless.specs.Carryless.{active, element, scalarOf}
-use Rattle.ghash_words.specs.GhashWords.{group}
+use Rattle.vector_registers.specs.declared.settings.Settings.{Settings}
+use Rattle.vector_word.specs.declared.Fields.{Fields}
+use Rattle.vector_word.specs.declared.Kind.{Kind}
+use Rattle.vector_word.specs.declared.Kind.the-variants.{VclmulVv, VclmulVx, VclmulhVv, VclmulhVx, VghshVv, VghshVs, VgmulVv, VgmulVs}
+use Rattle.vector_refusal.specs.Refusal.{isGhash}
+use Rattle.vector_element.specs.Clmul.{clmul64, lowHalf, highHalf}
+use Rattle.vector_element.specs.Element.{elementAt, blockPlace}
+use Rattle.vector_clmul.specs.Carryless.{active, element, scalarOf}
+use Rattle.vector_ghash.specs.GhashWords.{group}
 
 -- the units that are done: from the first to before this one
 abbrev pub firstUnit : Kind → Settings → ℕ

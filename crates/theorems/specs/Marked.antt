@@ -8,12 +8,12 @@ use Rattle.gf128.specs.Bytes.{blockAt}
 use Rattle.gf128.specs.Field.{product}
 use Rattle.gf128.specs.Hash.{ghash}
 use Rattle.gf128.specs.StepBack.{StepsBack}
-use Rattle.word.specs.declared.Fields.{Fields}
-use Rattle.word.specs.declared.Kind.{Kind}
-use Rattle.word.specs.declared.Kind.the-variants.{VghshVv}
-use Rattle.word.specs.declared.Word.the-variants.{Known}
-use Rattle.word.specs.Word.{decode}
-use Rattle.element.specs.Clmul.{clmul64, lowHalf, highHalf}
+use Rattle.vector_word.specs.declared.Fields.{Fields}
+use Rattle.vector_word.specs.declared.Kind.{Kind}
+use Rattle.vector_word.specs.declared.Kind.the-variants.{VghshVv}
+use Rattle.vector_word.specs.declared.Word.the-variants.{Known}
+use Rattle.vector_word.specs.Word.{decode}
+use Rattle.vector_element.specs.Clmul.{clmul64, lowHalf, highHalf}
 
 -- a block as document 01 writes it: its first bytes, zero bytes up to 16, its last bytes
 infix 50 _…_

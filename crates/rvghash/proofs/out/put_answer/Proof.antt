@@ -3,7 +3,7 @@ use mathlib.Core.Path.{_≡_, _∙_}
 use native.Mathlib.Omega.{arith}
 use denote.Ref.{now}
 use lib.ListN.{length}
-use Rattle.field.specs.Block.{valueOf}
+use Rattle.ghash_block.specs.Block.{valueOf}
 use Rattle.rvghash.proofs.Written.{out-other, out-put}
 use borrow.Author.Needs.{needs}
 use Rattle.rvghash.proofs.out.put_answer.Statement.{statement}

@@ -4,7 +4,7 @@ use native.Mathlib.Omega.{arith}
 use denote.Ref.{now}
 use borrow.Author.Tests.{eq-eqb, ne-eqb}
 use lib.ListN.{length}
-use Rattle.field.specs.Block.{valueOf}
+use Rattle.ghash_block.specs.Block.{valueOf}
 use Rattle.rvghash.proofs.Written.{out-other}
 use borrow.Author.Needs.{needs}
 use Rattle.rvghash.proofs.running_calls.finished_into.Statement.{statement}

@@ -2,8 +2,8 @@
 -- Assumes nothing.
 use mir.Syntax.{imm}
 use Rattle.rvghash.specs.Lent.{FeedsC}
-use Rattle.running.proofs.fed_c_plain.Symbol.{name as #g, routine}
-use Rattle.running.proofs.fed_c_plain.Met.{met}
+use Rattle.ghash_running.proofs.fed_c_plain.Symbol.{name as #g, routine}
+use Rattle.ghash_running.proofs.fed_c_plain.Met.{met}
 use Rattle.rvghash.proofs.Lent.{Says, lent-meets}
 use Rattle.rvghash.proofs.running_calls.rvghash_feed_c_plain.Key.{name as #f}
 use Rattle.rvghash.proofs.running_calls.rvghash_feed_c_plain.Statement.{statement}
@@ -14,4 +14,4 @@ said key s piece number t _ = FeedsC key s piece number t
 
 pub rvghash-feed-c-plain-spec : {M : Type 1} → statement M
 unfolding code.routine
-rvghash-feed-c-plain-spec 𝓤 H 𝓜 𝓖 𝓡 = lent-meets imm said 𝓤 H #g 𝓜 𝓖 𝓡 code.env #f (code.unfolded 𝓤 H 𝓜 𝓡) routine code.calls-running·fed-c-plain (met 𝓤 H 𝓜 𝓖 𝓡)
+rvghash-feed-c-plain-spec 𝓤 H 𝓜 𝓖 𝓡 = lent-meets imm said 𝓤 H #g 𝓜 𝓖 𝓡 code.env #f (code.unfolded 𝓤 H 𝓜 𝓡) routine code.calls-ghash-running·fed-c-plain (met 𝓤 H 𝓜 𝓖 𝓡)

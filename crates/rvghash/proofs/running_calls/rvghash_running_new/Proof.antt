@@ -36,13 +36,13 @@ use denote.Triple.Clauses.{ensured, lasts}
 use denote.Triple.Table.{entered, cited}
 use denote.Triple.Walked.{says, Stays, stay-ref, walkOf, goes-ref, Walks, ends-at, walked, walk-meets}
 use Rattle.gf128.specs.Running.{fresh}
-use Rattle.running_state.specs.State.{view}
-use Rattle.running_state.specs.declared.Running.{Running}
-use Rattle.running_state.proofs.Running as T
-use Rattle.running_state.proofs.Running.Laws as T′
-use Rattle.running_state.proofs.Running.new as new
-use Rattle.running_state.proofs.Running.new.Symbol.{name as #new, routine}
-use Rattle.running_state.proofs.Running.new.Met.{met}
+use Rattle.ghash_state.specs.State.{view}
+use Rattle.ghash_state.specs.declared.Running.{Running}
+use Rattle.ghash_state.proofs.Running as T
+use Rattle.ghash_state.proofs.Running.Laws as T′
+use Rattle.ghash_state.proofs.Running.new as new
+use Rattle.ghash_state.proofs.Running.new.Symbol.{name as #new, routine}
+use Rattle.ghash_state.proofs.Running.new.Met.{met}
 use Rattle.rvghash.proofs.running_calls.rvghash_running_new as f
 use Rattle.rvghash.proofs.running_calls.rvghash_running_new.Key.{name as #f}
 use Rattle.rvghash.proofs.running_calls.rvghash_running_new.Statement.{statement}
@@ -111,4 +111,4 @@ rvghash-running-new-spec 𝓤 H 𝓜 𝓖 𝓡 =
     entered 𝓤 H (tripleOf 𝓤 H (𝓖 .A) f.signature (f.spec 𝓤 H (𝓖 .A) (𝓜 .mem) (𝓡 .run)))
     (tables 𝓤 H 𝓜 𝓡 code.env .C) (tables 𝓤 H 𝓜 𝓡 code.env .Λ) #f code.function (code.unfolded 𝓤 H 𝓜 𝓡)
     (new-meets 𝓤 H (𝓖 .A) (givenOf 𝓤 H 𝓜 𝓖) (𝓜 .mem) (𝓡 .run) (tablesOf 𝓤 H 𝓜 (tables 𝓤 H 𝓜 𝓡 code.env))
-    (cited 𝓤 H (New 𝓤 H (𝓖 .A) (givenOf 𝓤 H 𝓜 𝓖) (𝓜 .mem) (𝓡 .run)) 𝓜 𝓡 code.env #new routine code.calls-running-state·Running·new (met 𝓤 H 𝓜 𝓖 𝓡)))
+    (cited 𝓤 H (New 𝓤 H (𝓖 .A) (givenOf 𝓤 H 𝓜 𝓖) (𝓜 .mem) (𝓡 .run)) 𝓜 𝓡 code.env #new routine code.calls-ghash-state·Running·new (met 𝓤 H 𝓜 𝓖 𝓡)))

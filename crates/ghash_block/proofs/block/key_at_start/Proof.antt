@@ -1,0 +1,13 @@
+-- `key_at_start` meets its contract: a key is read as a block is. Assumes nothing.
+use borrow.Author.Needs.{needs}
+use Rattle.ghash_block.proofs.block.key_at_start.Statement.{statement}
+use Rattle.ghash_block.proofs.block.key_at_start.Tie as tie
+
+block-at-requires : tie.Need-block-at-requires
+block-at-requires c κs = search needs
+
+returns : tie.Need-returns
+returns c = c .block-at .ensures
+
+pub key-at-start-spec : {M : Type 1} → statement M
+key-at-start-spec = tie.close (tie.spec block-at-requires returns)

@@ -1,0 +1,80 @@
+// The plain product: document 01's definition, bit by bit.
+ghost use mathlib.Core.Path.{_≡_};
+ghost use Prim.Native.Nat.{_<_, _≤_};
+ghost use Rattle.ghash_block.specs.Block.{valueOf, keyOf};
+ghost use Rattle.gf128.specs.Entries.{productRefusal, productBlock};
+ghost use Rattle.gf128.specs.Field.{coefficient, timesX, product};
+use ghash_block::block::Block;
+use ghash_block::block::Key;
+use ghash_block::block::block_at;
+use ghash_block::block::key_at_start;
+
+// Document 01's number, and the block, which is zero where the number is not. The block stands first, so that an answer
+// is not copied in pieces that cut it.
+pub struct Answer {
+    pub block: Block,
+    pub number: u32,
+}
+
+// The block times x.
+pub fn times_x(v: Block) -> Block
+    ensures { λ r. ⌜ valueOf r ≡ timesX (valueOf v) ⌝ }
+{
+    let high = v.0;
+    let low = v.1;
+    Block(
+        (high / 2) ^ (low % 2 * 0xE100_0000_0000_0000),
+        low / 2 + high % 2 * 0x8000_0000_0000_0000,
+    )
+}
+
+// Coefficient k of a block.
+fn coefficient(u: Block, k: u64) -> u64
+    requires { ⌜ k < 128 ⌝ }
+    ensures { λ r. ⌜ r ≡ coefficient (valueOf u) k ⌝ }
+{
+    if k < 64 {
+        return (u.0 >> (63 - k)) % 2;
+    }
+    (u.1 >> (127 - k)) % 2
+}
+
+// U·H on the plain path.
+pub fn product_plain(u: Block, h: Key) -> Block
+    ensures { λ r. ⌜ valueOf r ≡ product (valueOf u) (keyOf h) ⌝ }
+{
+    let mut z = Block(0, 0);
+    let mut v = Block(h.0, h.1);
+    let mut k: u64 = 0;
+    while k < 128 {
+        if coefficient(u, k) == 1 {
+            z = z.xor(v);
+        }
+        v = times_x(v);
+        k += 1;
+    }
+    z
+}
+
+// The plain product of a key and a block given as bytes.
+pub fn product_plain_bytes(key: &[u8], block: &[u8]) -> Answer
+    ensures { λ r. ⌜ (r .number ≡ productRefusal (now (key .entry)) (now (block .entry)))
+        × (valueOf (r .block) ≡ productBlock (now (key .entry)) (now (block .entry))) ⌝ }
+{
+    if key.len() != 16 {
+        return Answer {
+            number: 9,
+            block: Block::ZERO,
+        };
+    }
+    if block.len() != 16 {
+        return Answer {
+            number: 9,
+            block: Block::ZERO,
+        };
+    }
+    Answer {
+        number: 0,
+        block: product_plain(block_at(block, 0), key_at_start(key)),
+    }
+}

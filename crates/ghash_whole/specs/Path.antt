@@ -1,0 +1,17 @@
+-- The plain and the fast path (document 01's terms): bit by bit with the key, or four coefficients at a time with its tables.
+-- Assumes nothing.
+use mathlib.Core.List.{List}
+use Prim.Native.Nat.{ℕ}
+use Rattle.ghash_block.specs.declared.block.Key.{Key}
+use Rattle.ghash_whole.specs.declared.Path.{Path}
+use Rattle.ghash_whole.specs.declared.Path.the-variants.{Plain, Fast}
+use Rattle.ghash_block.specs.Block.{keyOf}
+use Rattle.ghash_fast.specs.Table.{TableOf}
+
+abbrev pub tablesFor : Path → ℕ → List ℕ → Type 0
+tablesFor Plain h t = Unit {0}
+tablesFor Fast h t = TableOf h t
+
+-- the tables that a call multiplies with are the key's; the plain path needs none
+pub record Serves (path : Path) (key : Key) (t : List ℕ) : Type 0 where
+  pub tables : tablesFor path (keyOf key) t

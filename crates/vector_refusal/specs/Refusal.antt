@@ -1,0 +1,101 @@
+-- Document 01, "Refusal numbers" 0 to 8. Where several apply the smallest is given.
+-- Assumes nothing.
+use Prim.Native.Nat.{ℕ, _%_}
+use mathlib.Core.Bool.{Bool, true, false, cond, not, _&&_, _||_}
+use lib.Dec.{eqb}
+use Rattle.vector_registers.specs.declared.settings.Settings.{Settings}
+use Rattle.vector_registers.specs.Settings.{misaligned, applies1, applies3}
+use Rattle.vector_word.specs.declared.Kind.{Kind}
+use Rattle.vector_word.specs.declared.Kind.the-variants.{VclmulVv, VclmulVx, VclmulhVv, VclmulhVx, VghshVv, VghshVs, VgmulVv, VgmulVs}
+use Rattle.vector_word.specs.declared.Fields.{Fields}
+use Rattle.vector_word.specs.declared.Word.{Word}
+use Rattle.vector_word.specs.declared.Word.the-variants.{Known, Unknown}
+use Rattle.vector_word.specs.Word.{decode}
+
+-- ---- kinds of word
+
+abbrev pub isGhash : Kind → Bool
+isGhash VclmulVv = false
+isGhash VclmulVx = false
+isGhash VclmulhVv = false
+isGhash VclmulhVx = false
+isGhash VghshVv = true
+isGhash VghshVs = true
+isGhash VgmulVv = true
+isGhash VgmulVs = true
+
+-- a .vs word: vs2 is the key alone, and no group
+abbrev pub isVs : Kind → Bool
+isVs VclmulVv = false
+isVs VclmulVx = false
+isVs VclmulhVv = false
+isVs VclmulhVx = false
+isVs VghshVv = false
+isVs VghshVs = true
+isVs VgmulVv = false
+isVs VgmulVs = true
+
+-- the carry-less .vv words
+abbrev pub isCarrylessVv : Kind → Bool
+isCarrylessVv VclmulVv = true
+isCarrylessVv VclmulVx = false
+isCarrylessVv VclmulhVv = true
+isCarrylessVv VclmulhVx = false
+isCarrylessVv VghshVv = false
+isCarrylessVv VghshVs = false
+isCarrylessVv VgmulVv = false
+isCarrylessVv VgmulVs = false
+
+-- vs1 is a register group: the carry-less .vv words and both vghsh words
+abbrev pub hasVs1Group : Kind → Bool
+hasVs1Group VclmulVv = true
+hasVs1Group VclmulVx = false
+hasVs1Group VclmulhVv = true
+hasVs1Group VclmulhVx = false
+hasVs1Group VghshVv = true
+hasVs1Group VghshVs = true
+hasVs1Group VgmulVv = false
+hasVs1Group VgmulVs = false
+
+-- ---- the other numbers, in the table's words
+
+-- a GHASH word and SEW is not 32
+abbrev pub applies4 : Kind → Settings → Bool
+applies4 k s = isGhash k && not (eqb (s .sew) 32)
+
+-- a GHASH word and vl or vstart no multiple of 4
+abbrev pub applies5 : Kind → Settings → Bool
+applies5 k s = isGhash k && (not (eqb (s .vl % 4) 0) || not (eqb (s .vstart % 4) 0))
+
+-- a register group's number is no multiple of LMUL: vd; vs2 except in .vs words; vs1 where it is a group
+abbrev pub applies6 : Kind → Fields → Settings → Bool
+applies6 k f s =
+    misaligned (s .lmul) (f .vd)
+    || ((not (isVs k) && misaligned (s .lmul) (f .vs2)) || (hasVs1Group k && misaligned (s .lmul) (f .vs1)))
+
+-- a .vs word and vs2 equals vd
+abbrev pub applies7 : Kind → Fields → Bool
+applies7 k f = isVs k && eqb (f .vs2) (f .vd)
+
+-- vm is 0 and vd, vs2 or (.vv) vs1 is register 0
+abbrev pub applies8 : Kind → Fields → Bool
+applies8 k f = eqb (f .vm) 0 && (eqb (f .vd) 0 || (eqb (f .vs2) 0 || (isCarrylessVv k && eqb (f .vs1) 0)))
+
+-- ---- the smallest that applies, or 0
+
+unfoldable pub refusalOfKnown : Kind → Fields → Settings → ℕ
+refusalOfKnown k f s =
+    cond (applies3 s) 3
+    (cond (applies4 k s) 4
+    (cond (applies5 k s) 5
+    (cond (applies6 k f s) 6
+    (cond (applies7 k f) 7
+    (cond (applies8 k f) 8 0)))))
+
+-- 2: the word is none of the eight
+abbrev pub refusalOfWord : Word → Settings → ℕ
+refusalOfWord Unknown s = 2
+refusalOfWord (Known k f) s = refusalOfKnown k f s
+
+unfoldable pub refusalOf : ℕ → ℕ → Settings → ℕ
+refusalOf fileLength word s = cond (applies1 fileLength (s .vlen)) 1 (refusalOfWord (decode word) s)

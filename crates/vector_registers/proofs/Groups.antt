@@ -1,0 +1,104 @@
+-- A register group's part is empty exactly when the group's number is not 0 (`empty-when-refused`); else it has the group's length
+-- (`part-length`), for the group lies within the file (`within`).
+-- Assumes nothing.
+use Prim.Native.Nat.{ℕ, _+_, _*_, _%_, _≤_, _<_}
+use mathlib.Core.Bool.{true, cond, not, _||_}
+use mathlib.Core.List.{List, []}
+use mathlib.Core.Logic.{_↔_, _≢_, ⊎-elim}
+use mathlib.Core.Path.{_≡_, refl, sym, ap, subst, _∙_}
+use native.Mathlib.Omega.{arith}
+use borrow.Author.Tests.{eqb-true, ltb-false, not-false, eq-eqb, ne-eqb}
+use lib.Dec.{eqb, ltb}
+use lib.ListN.{length, take, drop, length-take, length-drop}
+use Rattle.vector_registers.specs.Settings.{applies1, vlenAllowed, lmulAllowed, misaligned, registerBytes, fileBytes, groupLength}
+use Rattle.vector_registers.specs.Group.{groupRefusal, groupOf}
+use Rattle.vector_registers.proofs.Allowed.{vlen-cases, lmul-cases}
+use Rattle.vector_word.proofs.Tests.{pick-here, pick-next, or-false, passed}
+
+-- an aligned group ends at the last register or before
+pub last-register : (lmul r : ℕ) → lmulAllowed lmul ≡ true → r ≤ 31 → r % lmul ≡ 0 → r + lmul ≤ 32
+last-register lmul r h le al =
+    ⊎-elim (at 1 (λ m. omega arith))
+    (⊎-elim (at 2 (λ m. omega arith)) (⊎-elim (at 4 (λ m. omega arith)) (at 8 (λ m. omega arith))))
+    (lmul-cases lmul h)
+  where
+    at : (l : ℕ) → (r % l ≡ 0 → r + l ≤ 32) → lmul ≡ l → r + lmul ≤ 32
+    at l k e = subst (λ (x : ℕ). r % x ≡ 0 → r + x ≤ 32) (sym e) k al
+
+-- a group that ends at register 32 or before lies within the file
+abbrev pub InFile : ℕ → ℕ → ℕ → Type 0
+InFile r lmul vlen = r * registerBytes vlen + groupLength vlen lmul ≤ fileBytes vlen
+
+pub registers-within : (vlen r lmul : ℕ) → vlenAllowed vlen ≡ true → r + lmul ≤ 32 → InFile r lmul vlen
+registers-within vlen r lmul h le =
+    ⊎-elim (at 128 (omega arith)) (⊎-elim (at 256 (omega arith)) (at 512 (omega arith))) (vlen-cases vlen h)
+  where
+    at : (v : ℕ) → InFile r lmul v → vlen ≡ v → InFile r lmul vlen
+    at v k e = subst (InFile r lmul) (sym e) k
+
+-- no group is empty
+some-bytes : (vlen lmul : ℕ) → vlenAllowed vlen ≡ true → lmulAllowed lmul ≡ true → 0 < groupLength vlen lmul
+some-bytes vlen lmul v l =
+    ⊎-elim (at 128 (omega (arith, one))) (⊎-elim (at 256 (omega (arith, one))) (at 512 (omega (arith, one))))
+    (vlen-cases vlen v)
+  where
+    one : 1 ≤ lmul
+    one = ⊎-elim (λ e. omega arith) (⊎-elim (λ e. omega arith) (⊎-elim (λ e. omega arith) (λ e. omega arith))) (lmul-cases lmul l)
+
+    at : (x : ℕ) → 0 < groupLength x lmul → vlen ≡ x → 0 < groupLength vlen lmul
+    at x k e = subst (λ (y : ℕ). 0 < groupLength y lmul) (sym e) k
+
+-- what number 0 says of the settings
+pub record Granted (vlen fileLength lmul register : ℕ) : Type 0 where
+  pub vlen-allowed : vlenAllowed vlen ≡ true
+  pub file-length : fileLength ≡ fileBytes vlen
+  pub lmul-allowed : lmulAllowed lmul ≡ true
+  pub a-register : register ≤ 31
+  pub aligned : register % lmul ≡ 0
+
+module _ (vlen fileLength lmul register : ℕ) (zero : groupRefusal vlen fileLength lmul register ≡ 0) where
+  pub granted : Granted vlen fileLength lmul register
+  unfolding groupRefusal
+  granted =
+      let unaligned = ltb 31 register || misaligned lmul register in
+      let rest : ℕ = cond (not (lmulAllowed lmul)) 3 (cond unaligned 6 0) in
+      let past1 = passed (applies1 fileLength vlen) 1 rest (omega arith) zero in
+      let past3 = passed (not (lmulAllowed lmul)) 3 (cond unaligned 6 0) (omega arith) (past1 .1) in
+      let past6 = passed unaligned 6 0 (omega arith) (past3 .1) in
+      let file = or-false (not (vlenAllowed vlen)) (not (eqb fileLength (fileBytes vlen))) (past1 .0) in
+      let number = or-false (ltb 31 register) (misaligned lmul register) (past6 .0) in
+      record {
+        vlen-allowed = not-false (vlenAllowed vlen) (file .0);
+        file-length = eqb-true _ _ (not-false (eqb fileLength (fileBytes vlen)) (file .1));
+        lmul-allowed = not-false (lmulAllowed lmul) (past3 .0);
+        a-register = ltb-false 31 register (number .0);
+        aligned = eqb-true _ _ (not-false (eqb (register % lmul) 0) (number .1));
+      }
+
+  pub within : register * registerBytes vlen + groupLength vlen lmul ≤ fileLength
+  within =
+      rw (granted .file-length)
+      (registers-within vlen register lmul (granted .vlen-allowed)
+      (last-register lmul register (granted .lmul-allowed) (granted .a-register) (granted .aligned)))
+
+module _ (vlen : ℕ) (file : List ℕ) (lmul register : ℕ) where
+  pub the-part : groupRefusal vlen (length file) lmul register ≡ 0
+      → take (groupLength vlen lmul) (drop (register * registerBytes vlen) file) ≡ groupOf vlen file lmul register
+  unfolding groupOf
+  the-part h = pick-here _ _ _ (eq-eqb _ _ h)
+
+  pub no-part : groupRefusal vlen (length file) lmul register ≢ 0 → [] ≡ groupOf vlen file lmul register
+  unfolding groupOf
+  no-part h = pick-next _ _ _ (ne-eqb _ _ h) refl
+
+  pub part-length : groupRefusal vlen (length file) lmul register ≡ 0
+      → length (groupOf vlen file lmul register) ≡ groupLength vlen lmul
+  part-length h =
+      sym (ap length (the-part h)) ∙ simp (length-take, length-drop) (omega (arith, within vlen (length file) lmul register h))
+
+  pub empty-when-refused : groupOf vlen file lmul register ≡ [] ↔ groupRefusal vlen (length file) lmul register ≢ 0
+  empty-when-refused = (
+    λ e h. let g = granted vlen (length file) lmul register h in
+        omega (arith, some-bytes vlen lmul (g .vlen-allowed) (g .lmul-allowed), part-length h, ap length e),
+    λ h. sym (no-part h),
+  )

@@ -1,0 +1,21 @@
+-- Document 01: "Asked for a register group, the library hands back that group's own bytes of the lent file."
+-- Assumes nothing.
+use Prim.Native.Nat.{ℕ, _*_}
+use mathlib.Core.Bool.{cond, not, _||_}
+use mathlib.Core.List.{List, []}
+use lib.Dec.{eqb, ltb}
+use lib.ListN.{length, take, drop}
+use Rattle.vector_registers.specs.Settings.{applies1, lmulAllowed, misaligned, registerBytes, groupLength}
+
+-- the separate question: 1 as in the table, 3 if LMUL isn't allowed, 6 if the register is over 31 or no multiple of LMUL, else 0
+unfoldable pub groupRefusal : ℕ → ℕ → ℕ → ℕ → ℕ
+groupRefusal vlen fileLength lmul register =
+    cond (applies1 fileLength vlen) 1
+    (cond (not (lmulAllowed lmul)) 3
+    (cond (ltb 31 register || misaligned lmul register) 6 0))
+
+-- the group's bytes; none where the number is not 0
+unfoldable pub groupOf : ℕ → List ℕ → ℕ → ℕ → List ℕ
+groupOf vlen file lmul register =
+    cond (eqb (groupRefusal vlen (length file) lmul register) 0)
+    (take (groupLength vlen lmul) (drop (register * registerBytes vlen) file)) []
