@@ -1,11 +1,12 @@
--- What the entries on slices answer: document 01's number, and the block, which is zero on a refusal.
+-- What the entries on slices answer: document 01's number, and the block, which is zero on a refusal; and what of it
+-- the C functions write to `out`.
 -- Assumes nothing.
 use Prim.Native.Nat.{ℕ}
 use mathlib.Core.Bool.{cond, not, _||_}
 use mathlib.Core.List.{List}
 use lib.Dec.{eqb, ltb}
 use lib.ListN.{length}
-use Rattle.gf128.specs.Bytes.{blockAt}
+use Rattle.gf128.specs.Bytes.{blockAt, blockBytes}
 use Rattle.gf128.specs.Field.{product}
 use Rattle.gf128.specs.Hash.{ghash, limit}
 
@@ -24,3 +25,25 @@ hashRefusal key a c =
 
 abbrev pub hashBlock : List ℕ → List ℕ → List ℕ → ℕ
 hashBlock key a c = cond (eqb (hashRefusal key a c) 0) (ghash (blockAt key 0) a c) 0
+
+-- ---- a block written to `out`: one not 16 bytes long is 9, and nothing is written
+
+-- the number, where the call would answer n
+abbrev pub outNumber : List ℕ → ℕ → ℕ
+outNumber out n = cond (eqb (length out) 16) n 9
+
+-- `out` afterwards, where the call would give the block v
+abbrev pub outBytes : List ℕ → ℕ → List ℕ
+outBytes out v = cond (eqb (length out) 16) (blockBytes v) out
+
+abbrev pub productNumber : List ℕ → List ℕ → List ℕ → ℕ
+productNumber key block out = outNumber out (productRefusal key block)
+
+abbrev pub productOut : List ℕ → List ℕ → List ℕ → List ℕ
+productOut key block out = outBytes out (productBlock key block)
+
+abbrev pub hashNumber : List ℕ → List ℕ → List ℕ → List ℕ → ℕ
+hashNumber key a c out = outNumber out (hashRefusal key a c)
+
+abbrev pub hashOut : List ℕ → List ℕ → List ℕ → List ℕ → List ℕ
+hashOut key a c out = outBytes out (hashBlock key a c)

@@ -12,6 +12,7 @@ use lib.Seq.{sets, sets-eq}
 use Rattle.ghash_block.specs.Block.{valueOf}
 use Rattle.ghash_plain.specs.declared.Answer.{Answer}
 use Rattle.gf128.specs.Bytes.{blockBytes, putBlock}
+use Rattle.gf128.specs.Entries.{outNumber, outBytes}
 use Rattle.gf128.specs.Running.{State, finishRefusal, afterFinish, finishBlock}
 use Rattle.gf128.proofs.Bytes.{length-beBytes}
 use Rattle.ghash_state.specs.State.{view}
@@ -21,7 +22,7 @@ use Rattle.ghash_running.specs.declared.Finished.{Finished}
 use Rattle.rvghash.specs.Lent.{stateFor}
 use Rattle.ghash_inverse.specs.StepBack.{StepsBackBytes}
 use Rattle.rvghash.specs.StepBack.{StepsBackInto}
-use Rattle.rvghash.specs.Out.{outNumber, outBytes, finishNumber, finishState, finishOut}
+use Rattle.rvghash.specs.Out.{finishNumber, finishState, finishOut}
 
 -- an `out` of another length: 9, and nothing is written
 pub out-other : (out : List ℕ) (n v : ℕ) → (length out ≡ 16 → ⊥) → (9 ≡ outNumber out n) × (out ≡ outBytes out v)

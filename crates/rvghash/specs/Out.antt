@@ -1,21 +1,14 @@
--- What the C functions write to `out`: the block's 16 bytes. An `out` not 16 bytes long is 9, and nothing is written.
+-- What the C functions answer where no other crate's definition says it: the degree of bytes, and finishing into `out`.
 -- Assumes nothing.
 use Prim.Native.Nat.{ℕ}
-use mathlib.Core.Bool.{cond, not}
+use mathlib.Core.Bool.{cond}
 use mathlib.Core.List.{List}
 use lib.Dec.{eqb}
 use lib.ListN.{length}
-use Rattle.gf128.specs.Bytes.{blockAt, blockBytes}
+use Rattle.gf128.specs.Bytes.{blockAt}
 use Rattle.gf128.specs.Degree.{degreeOf, degreeRefusal}
+use Rattle.gf128.specs.Entries.{outNumber, outBytes}
 use Rattle.gf128.specs.Running.{State, finishRefusal, afterFinish, finishBlock}
-
--- the number, where the call would answer n
-abbrev pub outNumber : List ℕ → ℕ → ℕ
-outNumber out n = cond (eqb (length out) 16) n 9
-
--- `out` afterwards, where the call would give the block v, which is zero on a refusal
-abbrev pub outBytes : List ℕ → ℕ → List ℕ
-outBytes out v = cond (eqb (length out) 16) (blockBytes v) out
 
 -- the degree of a block given as bytes: 9 for another length, 12 for the zero block
 abbrev pub degreeNumber : List ℕ → ℕ

@@ -1,8 +1,8 @@
 // The products, the step back and the degree.
 ghost use mathlib.Core.Path.{_≡_};
-ghost use Rattle.rvghash.specs.Out.{outNumber, outBytes, degreeNumber, degreePlace};
+ghost use Rattle.rvghash.specs.Out.{degreeNumber, degreePlace};
 ghost use Rattle.rvghash.specs.StepBack.{StepsBackInto};
-ghost use Rattle.gf128.specs.Entries.{productRefusal, productBlock};
+ghost use Rattle.gf128.specs.Entries.{productNumber, productOut};
 use crate::out::put_answer;
 use ghash_block::block::block_at;
 use ghash_block::block::degree;
@@ -12,16 +12,16 @@ use ghash_plain::product_plain_bytes;
 
 #[no_mangle]
 pub extern "C" fn rvghash_product_plain(key: &[u8], block: &[u8], out: &mut [u8]) -> u32
-    ensures { λ r. ⌜ (r ≡ outNumber (now (out .entry)) (productRefusal (now (key .entry)) (now (block .entry))))
-        × (now (out .exit) ≡ outBytes (now (out .entry)) (productBlock (now (key .entry)) (now (block .entry)))) ⌝ }
+    ensures { λ r. ⌜ (r ≡ productNumber (now (key .entry)) (now (block .entry)) (now (out .entry)))
+        × (now (out .exit) ≡ productOut (now (key .entry)) (now (block .entry)) (now (out .entry))) ⌝ }
 {
     put_answer(product_plain_bytes(key, block), out)
 }
 
 #[no_mangle]
 pub extern "C" fn rvghash_product_fast(key: &[u8], block: &[u8], out: &mut [u8]) -> u32
-    ensures { λ r. ⌜ (r ≡ outNumber (now (out .entry)) (productRefusal (now (key .entry)) (now (block .entry))))
-        × (now (out .exit) ≡ outBytes (now (out .entry)) (productBlock (now (key .entry)) (now (block .entry)))) ⌝ }
+    ensures { λ r. ⌜ (r ≡ productNumber (now (key .entry)) (now (block .entry)) (now (out .entry)))
+        × (now (out .exit) ≡ productOut (now (key .entry)) (now (block .entry)) (now (out .entry))) ⌝ }
 {
     put_answer(product_fast_bytes(key, block), out)
 }

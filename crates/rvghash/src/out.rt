@@ -1,7 +1,7 @@
 // Writing a block to a lent `out`.
 ghost use mathlib.Core.Path.{_≡_};
 ghost use Rattle.ghash_block.specs.Block.{valueOf};
-ghost use Rattle.rvghash.specs.Out.{outNumber, outBytes};
+ghost use Rattle.gf128.specs.Entries.{outNumber, outBytes};
 use ghash_block::block::put_block;
 use ghash_plain::Answer;
 

@@ -3,7 +3,7 @@ ghost use mathlib.Core.Path.{_≡_};
 ghost use Rattle.gf128.specs.Running.{fresh};
 ghost use Rattle.ghash_state.specs.State.{view};
 ghost use Rattle.ghash_block.specs.Block.{valueOf};
-ghost use Rattle.rvghash.specs.Out.{outNumber, outBytes};
+ghost use Rattle.gf128.specs.Entries.{outNumber, outBytes};
 ghost use Rattle.rvghash.specs.Lent.{FeedsA, FeedsC, FinishesInto, stateFor};
 use crate::out::put_answer;
 use ghash_plain::Answer;
