@@ -1,6 +1,7 @@
 pub mod Bytes
 pub mod Changed
 pub mod Elements
+pub mod Examples
 pub mod Execution
 pub mod Fold
 pub mod Groups

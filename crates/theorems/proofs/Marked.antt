@@ -28,14 +28,14 @@ use Rattle.theorems.specs.Marked.{Case, carryless, times, back, word, ha
 
 -- ---- the test: the numbers that the written rules give are the numbers that the case says
 
-same : List ℕ → List ℕ → Bool
+unfoldable pub same : List ℕ → List ℕ → Bool
 same [] [] = true
 same [] (y ∷ ys) = false
 same (x ∷ xs) [] = false
 same (x ∷ xs) (y ∷ ys) = eqb x y && same xs ys
 
 -- a kind's place in the table of the words
-place : Kind → ℕ
+unfoldable pub place : Kind → ℕ
 place VclmulVv = 0
 place VclmulVx = 1
 place VclmulhVv = 2
@@ -45,16 +45,16 @@ place VghshVs = 5
 place VgmulVv = 6
 place VgmulVs = 7
 
-numbersOf : Word → List ℕ
+unfoldable pub numbersOf : Word → List ℕ
 numbersOf (Known k f) = place k ∷ f .vm ∷ f .vd ∷ f .vs2 ∷ f .vs1 ∷ []
 numbersOf Unknown = []
 
 -- what a number has above a block's 128 digits
-abbrev above : ℕ → ℕ
+abbrev pub above : ℕ → ℕ
 above n = n / 2 ^ 128
 
 -- a step back is tested forwards; the zero key has an answer of its own
-goesBack : (zero-key zero-later : Bool) (h x y1 number block : ℕ) → Bool
+unfoldable pub goesBack : (zero-key zero-later : Bool) (h x y1 number block : ℕ) → Bool
 goesBack true z h x y1 number block = same (number ∷ block ∷ []) (cond z 13 12 ∷ 0 ∷ [])
 goesBack false z h x y1 number block =
     same (number ∷ quickProduct (bitXor block x) h ∷ above h ∷ above x ∷ above y1 ∷ above block ∷ []) (0 ∷ y1 ∷ 0 ∷ 0 ∷ 0 ∷ 0 ∷ [])
@@ -68,7 +68,7 @@ right (hash h a c block) = same (quickGhash h a c ∷ []) (block ∷ [])
 
 -- ---- what the test shows
 
-same-at : (xs ys : List ℕ) → T (same xs ys) → (n : ℕ) → getD xs n 0 ≡ getD ys n 0
+pub same-at : (xs ys : List ℕ) → T (same xs ys) → (n : ℕ) → getD xs n 0 ≡ getD ys n 0
 unfolding same
 same-at [] [] t n = refl
 same-at [] (y ∷ ys) t n = absurd t
@@ -87,7 +87,7 @@ at-place VghshVs = refl
 at-place VgmulVv = refl
 at-place VgmulVs = refl
 
-is-word : (w : Word) (k : Kind) (vm vd vs2 vs1 : ℕ) → T (same (numbersOf w) (place k ∷ vm ∷ vd ∷ vs2 ∷ vs1 ∷ []))
+pub is-word : (w : Word) (k : Kind) (vm vd vs2 vs1 : ℕ) → T (same (numbersOf w) (place k ∷ vm ∷ vd ∷ vs2 ∷ vs1 ∷ []))
     → w ≡ Known k (record { vm = vm; vs2 = vs2; vs1 = vs1; vd = vd })
 unfolding numbersOf same
 is-word (Known j f) k vm vd vs2 vs1 t =
@@ -100,7 +100,7 @@ is-block : (n : ℕ) → above n ≡ 0 → IsBlock n
 is-block n e = div-lt-iff-lt-mul (pow-pos 128) .0 (subst (λ (q : ℕ). q < 1) (sym e) (lit< tt))
 
 module _ (h x y1 number block : ℕ) where
-  goes-back : (zh z1 : Bool) → eqb h 0 ≡ zh → eqb y1 0 ≡ z1 → T (goesBack zh z1 h x y1 number block) → StepsBack h x y1 number block
+  pub goes-back : (zh z1 : Bool) → eqb h 0 ≡ zh → eqb y1 0 ≡ z1 → T (goesBack zh z1 h x y1 number block) → StepsBack h x y1 number block
   unfolding goesBack next earlier
   goes-back true true eh e1 t =
       let e = same-at (number ∷ block ∷ []) (13 ∷ 0 ∷ []) t in
@@ -141,4 +141,4 @@ all-show (c ∷ cs) t = (shows c (and-left (right c) (allRight cs) t), all-show 
 
 pub marked : MarkedCasesHold
 unfolding table allRight right goesBack numbersOf place same quickSteps quickProduct quickOver quickGhash beAt blocksFrom blocksOf lengthBlock messageOf decode clmul clmul64
-marked = all-show table tt
+marked = record { rows = refl; all = all-show table tt }

@@ -1,3 +1,4 @@
 pub mod Changed
+pub mod Examples
 pub mod Execution
 pub mod Marked

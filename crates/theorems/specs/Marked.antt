@@ -77,6 +77,7 @@ abbrev pub AllHold : List Case → Type 0
 AllHold [] = Unit {0}
 AllHold (c ∷ cs) = Holds c × AllHold cs
 
--- the statement: K1 to K14 hold
-abbrev pub MarkedCasesHold : Type 0
-MarkedCasesHold = AllHold table
+-- the statement: there are fourteen cases, K1 to K14, and all of them hold
+pub record MarkedCasesHold : Type 0 where
+  pub rows : length table ≡ 14
+  pub all : AllHold table

@@ -1,0 +1,167 @@
+-- The examples hold (`examples`): one test of an example, computed over the table, and one law that turns the test into what the example
+-- says, as for the marked cases. Assumes nothing.
+use mathlib.Core.Path.{_≡_, refl, sym, ap, ap₂, _∙_}
+use mathlib.Core.Bool.{Bool, true, false, cond, not, _&&_, _||_}
+use mathlib.Core.List.{List, [], _∷_, _++_}
+use Prim.Native.Nat.{ℕ, zero, suc, _+_, _-_, _/_}
+use lib.Bits.{bitXor}
+use lib.Dec.{T, eqb, ltb, eqb→eq}
+use lib.ListN.{length, getD}
+use Rattle.gf128.specs.Bytes.{beAt, beBytes, blockAt, putBlock}
+use Rattle.gf128.specs.Degree.{highest, degreeOf, degreeRefusal}
+use Rattle.gf128.specs.Field.{coeffOf, product}
+use Rattle.gf128.specs.Hash.{limit}
+use Rattle.gf128.specs.Running.{State, malformed, finishRefusal}
+use Rattle.gf128.proofs.Computed.{quickSteps, quickProduct, quick-product}
+use Rattle.gf128.proofs.Places.{and-left, and-right}
+use Rattle.vector_registers.specs.declared.settings.Settings.{Settings}
+use Rattle.vector_registers.specs.Group.{groupRefusal}
+use Rattle.vector_word.specs.declared.Fields.{Fields}
+use Rattle.vector_word.specs.declared.Kind.{Kind}
+use Rattle.vector_word.specs.declared.Kind.the-variants.{VclmulVv, VclmulVx, VclmulhVv, VclmulhVx, VghshVv, VghshVs, VgmulVv, VgmulVs}
+use Rattle.vector_word.specs.declared.Word.{Word}
+use Rattle.vector_word.specs.declared.Word.the-variants.{Known, Unknown}
+use Rattle.vector_word.specs.Word.{decode}
+use Rattle.vector_refusal.specs.Refusal.{refusalOf, refusalOfKnown}
+use Rattle.vector_element.specs.Clmul.{clmul, clmul64}
+use Rattle.vector_element.specs.Element.{readLe, writeLe, maskBit, blockPlace}
+use Rattle.vector_clmul.specs.Carryless.{carrylessResult, carrylessStep, carryless}
+use Rattle.vector_clmul.specs.Steps.{steps}
+use Rattle.vector_ghash.specs.declared.Multiplicand.{Multiplicand}
+use Rattle.vector_ghash.specs.declared.Multiplicand.the-variants.{YXorX, YAlone}
+use Rattle.vector_ghash.specs.GhashWords.{group, multiplicandOf, vvStep, vsStep, ghashVv, ghashVs}
+use Rattle.vector_execute.specs.Execute.{doneKnown, done, executed, vstartAfter}
+use Rattle.theorems.specs.Examples.{Example, call, known, word, question, times, hash, state, feeds, degree, back, execution, running, file, table, Holds, AllHold, ExamplesHold}
+use Rattle.theorems.proofs.Marked.{same, place, numbersOf, goesBack, same-at, is-word, goes-back}
+
+-- ---- a call that computes fast: the executor's definition over the product, which is then the quick one
+
+ghashBy : (ℕ → ℕ → ℕ) → Multiplicand → Fields → Settings → (ℕ → List ℕ → ℕ) → List ℕ → List ℕ
+ghashBy p m f s key bytes =
+    steps (λ i b. putBlock b (blockPlace (s .vlen) (f .vd) i) (p (multiplicandOf m f s b i) (key i b)))
+    (s .vl / 4 - s .vstart / 4) (s .vstart / 4) bytes
+
+doneBy : (ℕ → ℕ → ℕ) → Word → Settings → ℕ → List ℕ → List ℕ
+doneBy p Unknown s scalar bytes = bytes
+doneBy p (Known VclmulVv f) s scalar bytes = doneKnown VclmulVv f s scalar bytes
+doneBy p (Known VclmulVx f) s scalar bytes = doneKnown VclmulVx f s scalar bytes
+doneBy p (Known VclmulhVv f) s scalar bytes = doneKnown VclmulhVv f s scalar bytes
+doneBy p (Known VclmulhVx f) s scalar bytes = doneKnown VclmulhVx f s scalar bytes
+doneBy p (Known VghshVv f) s scalar bytes = ghashBy p YXorX f s (λ i b. group s b (f .vs2) i) bytes
+doneBy p (Known VghshVs f) s scalar bytes = ghashBy p YXorX f s (λ i b. group s bytes (f .vs2) 0) bytes
+doneBy p (Known VgmulVv f) s scalar bytes = ghashBy p YAlone f s (λ i b. group s b (f .vs2) i) bytes
+doneBy p (Known VgmulVs f) s scalar bytes = ghashBy p YAlone f s (λ i b. group s bytes (f .vs2) 0) bytes
+
+executedBy : (ℕ → ℕ → ℕ) → ℕ → Settings → ℕ → List ℕ → List ℕ
+executedBy p w s scalar bytes = cond (eqb (refusalOf (length bytes) w s) 0) (doneBy p (decode w) s scalar bytes) bytes
+
+done-by : (w : Word) (s : Settings) (scalar : ℕ) (bytes : List ℕ) → doneBy product w s scalar bytes ≡ done w s scalar bytes
+unfolding doneBy ghashBy ghashVv ghashVs vvStep vsStep
+done-by Unknown s scalar bytes = refl
+done-by (Known VclmulVv f) s scalar bytes = refl
+done-by (Known VclmulVx f) s scalar bytes = refl
+done-by (Known VclmulhVv f) s scalar bytes = refl
+done-by (Known VclmulhVx f) s scalar bytes = refl
+done-by (Known VghshVv f) s scalar bytes = refl
+done-by (Known VghshVs f) s scalar bytes = refl
+done-by (Known VgmulVv f) s scalar bytes = refl
+done-by (Known VgmulVs f) s scalar bytes = refl
+
+quick-executed : (w : ℕ) (s : Settings) (scalar : ℕ) (bytes : List ℕ) → executedBy quickProduct w s scalar bytes ≡ executed w s scalar bytes
+unfolding executedBy executed
+quick-executed w s scalar bytes =
+    (λ j. executedBy (λ u h. quick-product u h j) w s scalar bytes)
+    ∙ ap (λ (b : List ℕ). cond (eqb (refusalOf (length bytes) w s) 0) b bytes) (done-by (decode w) s scalar bytes)
+
+-- ---- the numbers of entries on slices, by the lengths alone
+
+abbrev timesBy : ℕ → ℕ → ℕ
+timesBy k b = cond (not (eqb k 16) || not (eqb b 16)) 9 0
+
+abbrev hashBy : ℕ → ℕ → ℕ → ℕ
+hashBy k a c = cond (not (eqb k 16)) 9 (cond (ltb limit a || ltb limit c) 11 0)
+
+-- a piece of A, a piece of C, and the finish
+abbrev feedNumbers : State → ℕ → ℕ → List ℕ
+feedNumbers s k n =
+    cond (not (eqb k 16)) 9 (cond (malformed s || not (eqb (s .phase) 0)) 10 (cond (ltb limit (s .countA + n)) 11 0))
+    ∷ cond (not (eqb k 16)) 9 (cond (malformed s || eqb (s .phase) 2) 10 (cond (ltb limit (s .countC + n)) 11 0))
+    ∷ cond (not (eqb k 16)) 9 (cond (malformed s || eqb (s .phase) 2) 10 0)
+    ∷ []
+
+-- ---- the test
+
+numberOf : Bool → ℕ
+numberOf true = 1
+numberOf false = 0
+
+right : Example → Bool
+right (call fileLength w s number) = eqb (refusalOf fileLength w s) number
+right (known kind vm vd vs2 vs1 s number) = eqb (refusalOfKnown kind (record { vm = vm; vs2 = vs2; vs1 = vs1; vd = vd }) s) number
+right (word w kind vm vd vs2 vs1) = same (numbersOf (decode w)) (place kind ∷ vm ∷ vd ∷ vs2 ∷ vs1 ∷ [])
+right (question vlen fileLength lmul register number) = eqb (groupRefusal vlen fileLength lmul register) number
+right (times k b number) = eqb (timesBy k b) number
+right (hash k m n number) = eqb (hashBy k m n) number
+right (state phase countA countC place byte bad) = eqb (numberOf (malformed (running 0 phase countA countC place byte))) (numberOf bad)
+right (feeds phase countA countC k n a c finish) = same (feedNumbers (running 0 phase countA countC 0 0) k n) (a ∷ c ∷ finish ∷ [])
+right (degree u number at) = same (degreeRefusal u ∷ degreeOf u ∷ []) (number ∷ at ∷ [])
+right (back h x y1 number block) = goesBack (eqb h 0) (eqb y1 0) h x y1 number block
+right (execution w s scalar before changed vstart) =
+    same (executedBy quickProduct w s scalar (file before)) (file (changed ++ before)) && eqb (vstartAfter (length (file before)) w s) vstart
+
+-- ---- what the test shows
+
+same-list : (xs ys : List ℕ) → T (same xs ys) → xs ≡ ys
+unfolding same
+same-list [] [] t = refl
+same-list [] (y ∷ ys) t = absurd t
+same-list (x ∷ xs) [] t = absurd t
+same-list (x ∷ xs) (y ∷ ys) t = ap₂ _∷_ (eqb→eq x y (and-left (eqb x y) (same xs ys) t)) (same-list xs ys (and-right (eqb x y) (same xs ys) t))
+
+same-flag : (a b : Bool) → T (eqb (numberOf a) (numberOf b)) → a ≡ b
+unfolding numberOf
+same-flag true true t = refl
+same-flag true false t = absurd t
+same-flag false true t = absurd t
+same-flag false false t = refl
+
+shows : (e : Example) → T (right e) → Holds e
+unfolding right
+shows (call fileLength w s number) t = eqb→eq (refusalOf fileLength w s) number t
+shows (known kind vm vd vs2 vs1 s number) t = eqb→eq (refusalOfKnown kind (record { vm = vm; vs2 = vs2; vs1 = vs1; vd = vd }) s) number t
+shows (word w kind vm vd vs2 vs1) t = is-word (decode w) kind vm vd vs2 vs1 t
+shows (question vlen fileLength lmul register number) t = eqb→eq (groupRefusal vlen fileLength lmul register) number t
+shows (times k b number) t = λ key block ek eb. ap₂ timesBy ek eb ∙ eqb→eq (timesBy k b) number t
+shows (hash k m n number) t = λ key a c ek ea ec. (λ i. hashBy (ek i) (ea i) (ec i)) ∙ eqb→eq (hashBy k m n) number t
+shows (state phase countA countC place byte bad) t = λ y. same-flag (malformed (running 0 phase countA countC place byte)) bad t
+shows (feeds phase countA countC k n a c finish) t = λ y key piece ek en.
+    let e : (i : ℕ) → getD (feedNumbers (running y phase countA countC 0 0) (length key) (length piece)) i 0 ≡ getD (a ∷ c ∷ finish ∷ []) i 0 =
+    λ i. (λ j. getD (feedNumbers (running y phase countA countC 0 0) (ek j) (en j)) i 0)
+    ∙ same-at (feedNumbers (running y phase countA countC 0 0) k n) (a ∷ c ∷ finish ∷ []) t i in
+    (e 0, e 1, e 2)
+shows (degree u number at) t =
+    let e = same-at (degreeRefusal u ∷ degreeOf u ∷ []) (number ∷ at ∷ []) t in
+    (e 0, e 1)
+shows (back h x y1 number block) t = goes-back h x y1 number block (eqb h 0) (eqb y1 0) refl refl t
+shows (execution w s scalar before changed vstart) t =
+    let a = same (executedBy quickProduct w s scalar (file before)) (file (changed ++ before)) in
+    let b = eqb (vstartAfter (length (file before)) w s) vstart in (
+      sym (quick-executed w s scalar (file before))
+          ∙ same-list (executedBy quickProduct w s scalar (file before)) (file (changed ++ before)) (and-left a b t),
+      eqb→eq (vstartAfter (length (file before)) w s) vstart (and-right a b t),
+    )
+
+-- ---- the table
+
+allRight : List Example → Bool
+allRight [] = true
+allRight (e ∷ es) = right e && allRight es
+
+all-show : (es : List Example) → T (allRight es) → AllHold es
+unfolding allRight
+all-show [] t = tt
+all-show (e ∷ es) t = (shows e (and-left (right e) (allRight es) t), all-show es (and-right (right e) (allRight es) t))
+
+pub examples : ExamplesHold
+unfolding table allRight right same place numbersOf goesBack decode refusalOf refusalOfKnown groupRefusal numberOf file quickSteps quickProduct beAt beBytes highest degreeOf coeffOf executedBy doneBy ghashBy steps clmul clmul64 readLe writeLe maskBit carrylessResult carrylessStep carryless
+examples = record { rows = refl; all = all-show table tt }

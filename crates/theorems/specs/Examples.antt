@@ -1,0 +1,404 @@
+-- Examples of the written rules, as one table with one statement, `ExamplesHold`: each refusal number of document 01 on both sides of its
+-- limit, each clause of "malformed", and words with the bytes that they leave. A rule that is changed here or there no longer fits its row.
+-- Assumes nothing.
+use Prim.Native.Nat.{ℕ, _*_}
+use mathlib.Core.Path.{_≡_}
+use mathlib.Core.Bool.{Bool, true, false}
+use mathlib.Core.List.{List, [], _∷_, _++_}
+use lib.ListN.{length, set, replicate}
+use lib.Seq.{sets}
+use Rattle.gf128.specs.Bytes.{blockBytes}
+use Rattle.gf128.specs.Degree.{degreeOf, degreeRefusal}
+use Rattle.gf128.specs.Entries.{productRefusal, hashRefusal}
+use Rattle.gf128.specs.Running.{State, noBytes, malformed, feedARefusal, feedCRefusal, finishRefusal}
+use Rattle.gf128.specs.StepBack.{StepsBack}
+use Rattle.vector_registers.specs.declared.settings.Settings.{Settings}
+use Rattle.vector_registers.specs.Group.{groupRefusal}
+use Rattle.vector_word.specs.declared.Kind.{Kind}
+use Rattle.vector_word.specs.declared.Kind.the-variants.{VclmulVv, VclmulVx, VclmulhVv, VclmulhVx, VghshVv, VghshVs, VgmulVv, VgmulVs}
+use Rattle.vector_word.specs.declared.Word.the-variants.{Known}
+use Rattle.vector_word.specs.Word.{decode}
+use Rattle.vector_refusal.specs.Refusal.{refusalOf, refusalOfKnown}
+use Rattle.vector_execute.specs.Execute.{executed, vstartAfter}
+
+-- VLEN, SEW, LMUL, vl and vstart
+abbrev pub settings : ℕ → ℕ → ℕ → ℕ → ℕ → Settings
+settings vlen sew lmul vl vstart = record { vlen = vlen; sew = sew; lmul = lmul; vl = vl; vstart = vstart }
+
+-- a running hash whose open block has this byte at this place, and zeros elsewhere
+abbrev pub running : (y phase countA countC place byte : ℕ) → State
+running y phase countA countC place byte = record { y = y; block = set noBytes place byte; countA = countA; countC = countC; phase = phase }
+
+-- a register file with VLEN 128: a register's number and its 16 bytes, the first that names a register; the others hold A5
+unfoldable pub file : List (ℕ × ℕ) → List ℕ
+file [] = replicate 512 0xA5
+file (r ∷ rs) = sets (file rs) (16 * r .0) (blockBytes (r .1))
+
+pub data Example : Type 0 where
+  -- a call on a file of so many bytes, and its number
+  call : (fileLength w : ℕ) → (s : Settings) → (number : ℕ) → Example
+  -- a word of the eight by its fields, and its number, where 1 does not apply
+  known : (kind : Kind) → (vm vd vs2 vs1 : ℕ) → (s : Settings) → (number : ℕ) → Example
+  -- a word, its kind and its fields
+  word : (w : ℕ) → (kind : Kind) → (vm vd vs2 vs1 : ℕ) → Example
+  -- the question for a register group
+  question : (vlen fileLength lmul register number : ℕ) → Example
+  -- the lengths of a key and of a block, and the product's number
+  times : (key block number : ℕ) → Example
+  -- the lengths of a key, of A and of C, and the number of the whole hash
+  hash : (key a c number : ℕ) → Example
+  -- a running hash, and whether it is malformed
+  state : (phase countA countC place byte : ℕ) → (bad : Bool) → Example
+  -- a running hash with no open byte but zeros, the lengths of a key and of a piece, and the numbers of a piece of A, of a piece of C and of
+  -- the finish
+  feeds : (phase countA countC key piece a c finish : ℕ) → Example
+  -- a block, and the number and the place that are its degree's
+  degree : (u number place : ℕ) → Example
+  -- the step back from H, X and Y1: the number and the block that it answers
+  back : (h x y1 number block : ℕ) → Example
+  -- a call on a file, the registers that it changes, and vstart afterwards
+  execution : (w : ℕ) → (s : Settings) → (scalar : ℕ) → (before changed : List (ℕ × ℕ)) → (vstart : ℕ) → Example
+
+-- what an example says
+abbrev pub Holds : Example → Type 0
+Holds (call fileLength w s number) = refusalOf fileLength w s ≡ number
+Holds (known kind vm vd vs2 vs1 s number) = refusalOfKnown kind (record { vm = vm; vs2 = vs2; vs1 = vs1; vd = vd }) s ≡ number
+Holds (word w kind vm vd vs2 vs1) = decode w ≡ Known kind (record { vm = vm; vs2 = vs2; vs1 = vs1; vd = vd })
+Holds (question vlen fileLength lmul register number) = groupRefusal vlen fileLength lmul register ≡ number
+Holds (times k b number) = (key block : List ℕ) → length key ≡ k → length block ≡ b → productRefusal key block ≡ number
+Holds (hash k m n number) = (key a c : List ℕ) → length key ≡ k → length a ≡ m → length c ≡ n → hashRefusal key a c ≡ number
+Holds (state phase countA countC place byte bad) = (y : ℕ) → malformed (running y phase countA countC place byte) ≡ bad
+Holds (feeds phase countA countC k n a c finish) =
+    (y : ℕ) (key piece : List ℕ) → length key ≡ k → length piece ≡ n
+    → (feedARefusal key (running y phase countA countC 0 0) piece ≡ a)
+    × (feedCRefusal key (running y phase countA countC 0 0) piece ≡ c)
+    × (finishRefusal key (running y phase countA countC 0 0) ≡ finish)
+Holds (degree u number place) = (degreeRefusal u ≡ number) × (degreeOf u ≡ place)
+Holds (back h x y1 number block) = StepsBack h x y1 number block
+Holds (execution w s scalar before changed vstart) =
+    (executed w s scalar (file before) ≡ file (changed ++ before)) × (vstartAfter (length (file before)) w s ≡ vstart)
+
+unfoldable pub table : List Example
+table =
+    -- 1: VLEN not allowed, or file length not 32·VLEN/8
+    call 512 0x32862257 (settings 128 8 1 1 0) 0
+    ∷ call 511 0x32862257 (settings 128 8 1 1 0) 1
+    ∷ call 513 0x32862257 (settings 128 8 1 1 0) 1
+    ∷ call 1024 0x32862257 (settings 256 8 1 1 0) 0
+    ∷ call 1023 0x32862257 (settings 256 8 1 1 0) 1
+    ∷ call 1025 0x32862257 (settings 256 8 1 1 0) 1
+    ∷ call 2048 0x32862257 (settings 512 8 1 1 0) 0
+    ∷ call 2047 0x32862257 (settings 512 8 1 1 0) 1
+    ∷ call 2049 0x32862257 (settings 512 8 1 1 0) 1
+    ∷ call 256 0x32862257 (settings 64 8 1 1 0) 1
+    ∷ call 508 0x32862257 (settings 127 8 1 1 0) 1
+    ∷ call 516 0x32862257 (settings 129 8 1 1 0) 1
+    ∷ call 4096 0x32862257 (settings 1024 8 1 1 0) 1
+    -- 2: the word is none of the eight. The eight, each with vd 4, vs2 8 and, but for vgmul, vs1 or rs1 12
+    ∷ word 0x32862257 VclmulVv 1 4 8 12
+    ∷ word 0x32866257 VclmulVx 1 4 8 12
+    ∷ word 0x36862257 VclmulhVv 1 4 8 12
+    ∷ word 0x36866257 VclmulhVx 1 4 8 12
+    ∷ word 0xB2862277 VghshVv 1 4 8 12
+    ∷ word 0x8E862277 VghshVs 1 4 8 12
+    ∷ word 0xA288A277 VgmulVv 1 4 8 17
+    ∷ word 0xA688A277 VgmulVs 1 4 8 17
+    ∷ word 0x30862257 VclmulVv 0 4 8 12
+    ∷ word 0x34866257 VclmulhVx 0 4 8 12
+    -- 2: one bit of those changed, in opcode, funct3, funct6, vm of a GHASH word, and the vs1 field of vgmul
+    ∷ call 512 0x32862277 (settings 128 32 1 4 0) 2
+    ∷ call 512 0xB2862257 (settings 128 32 1 4 0) 2
+    ∷ call 512 0xB2862276 (settings 128 32 1 4 0) 2
+    ∷ call 512 0x32863257 (settings 128 32 1 4 0) 2
+    ∷ call 512 0x32864257 (settings 128 32 1 4 0) 2
+    ∷ call 512 0x3A862257 (settings 128 32 1 4 0) 2
+    ∷ call 512 0xB6862277 (settings 128 32 1 4 0) 2
+    ∷ call 512 0xB0862277 (settings 128 32 1 4 0) 2
+    ∷ call 512 0x8C862277 (settings 128 32 1 4 0) 2
+    ∷ call 512 0xA088A277 (settings 128 32 1 4 0) 2
+    ∷ call 512 0xA488A277 (settings 128 32 1 4 0) 2
+    ∷ call 512 0xA2882277 (settings 128 32 1 4 0) 2
+    ∷ call 512 0xA680A277 (settings 128 32 1 4 0) 2
+    -- 3: SEW or LMUL not allowed, or vl over VLMAX
+    ∷ known VclmulVv 1 8 16 24 (settings 128 8 1 16 0) 0
+    ∷ known VclmulVv 1 8 16 24 (settings 128 8 1 17 0) 3
+    ∷ known VclmulVv 1 8 16 24 (settings 128 64 1 2 0) 0
+    ∷ known VclmulVv 1 8 16 24 (settings 128 64 1 3 0) 3
+    ∷ known VclmulVv 1 8 16 24 (settings 256 16 2 32 0) 0
+    ∷ known VclmulVv 1 8 16 24 (settings 256 16 2 33 0) 3
+    ∷ known VclmulVv 1 8 16 24 (settings 512 32 4 64 0) 0
+    ∷ known VclmulVv 1 8 16 24 (settings 512 32 4 65 0) 3
+    ∷ known VclmulVv 1 8 16 24 (settings 512 8 8 512 0) 0
+    ∷ known VclmulVv 1 8 16 24 (settings 512 8 8 513 0) 3
+    ∷ known VclmulVv 1 8 16 24 (settings 128 0 1 1 0) 3
+    ∷ known VclmulVv 1 8 16 24 (settings 128 4 1 1 0) 3
+    ∷ known VclmulVv 1 8 16 24 (settings 128 24 1 1 0) 3
+    ∷ known VclmulVv 1 8 16 24 (settings 128 128 1 1 0) 3
+    ∷ known VclmulVv 1 8 16 24 (settings 128 8 0 1 0) 3
+    ∷ known VclmulVv 1 8 16 24 (settings 128 8 3 1 0) 3
+    ∷ known VclmulVv 1 8 16 24 (settings 128 8 16 1 0) 3
+    -- 4: a GHASH word and SEW is not 32
+    ∷ known VghshVv 1 4 8 12 (settings 128 32 1 4 0) 0
+    ∷ known VghshVv 1 4 8 12 (settings 128 16 1 4 0) 4
+    ∷ known VghshVv 1 4 8 12 (settings 128 64 2 4 0) 4
+    ∷ known VghshVs 1 4 8 12 (settings 128 32 1 4 0) 0
+    ∷ known VghshVs 1 4 8 12 (settings 128 16 1 4 0) 4
+    ∷ known VghshVs 1 4 8 12 (settings 128 64 2 4 0) 4
+    ∷ known VgmulVv 1 4 8 17 (settings 128 32 1 4 0) 0
+    ∷ known VgmulVv 1 4 8 17 (settings 128 16 1 4 0) 4
+    ∷ known VgmulVv 1 4 8 17 (settings 128 64 2 4 0) 4
+    ∷ known VgmulVs 1 4 8 17 (settings 128 32 1 4 0) 0
+    ∷ known VgmulVs 1 4 8 17 (settings 128 16 1 4 0) 4
+    ∷ known VgmulVs 1 4 8 17 (settings 128 64 2 4 0) 4
+    ∷ known VclmulVv 1 4 8 12 (settings 128 16 1 4 0) 0
+    ∷ known VclmulhVx 1 4 8 12 (settings 128 64 2 4 0) 0
+    -- 5: a GHASH word and vl or vstart no multiple of 4
+    ∷ known VghshVv 1 4 8 12 (settings 128 32 2 0 0) 0
+    ∷ known VghshVv 1 4 8 12 (settings 128 32 2 4 0) 0
+    ∷ known VghshVv 1 4 8 12 (settings 128 32 2 5 0) 5
+    ∷ known VghshVv 1 4 8 12 (settings 128 32 2 6 0) 5
+    ∷ known VghshVv 1 4 8 12 (settings 128 32 2 8 0) 0
+    ∷ known VghshVv 1 4 8 12 (settings 128 32 2 8 1) 5
+    ∷ known VghshVv 1 4 8 12 (settings 128 32 2 8 2) 5
+    ∷ known VghshVv 1 4 8 12 (settings 128 32 2 8 4) 0
+    ∷ known VghshVv 1 4 8 12 (settings 128 32 2 8 6) 5
+    ∷ known VghshVv 1 4 8 12 (settings 128 32 2 4 8) 0
+    ∷ known VghshVs 1 4 8 12 (settings 128 32 2 6 0) 5
+    ∷ known VghshVs 1 4 8 12 (settings 128 32 2 8 2) 5
+    ∷ known VgmulVv 1 4 8 17 (settings 128 32 2 6 0) 5
+    ∷ known VgmulVv 1 4 8 17 (settings 128 32 2 8 2) 5
+    ∷ known VgmulVs 1 4 8 17 (settings 128 32 2 6 0) 5
+    ∷ known VgmulVs 1 4 8 17 (settings 128 32 2 8 2) 5
+    ∷ known VclmulVv 1 4 8 12 (settings 128 32 2 5 2) 0
+    -- 6: a register group's number is no multiple of LMUL. vd
+    ∷ known VclmulVx 1 31 16 12 (settings 128 32 1 4 0) 0
+    ∷ known VclmulVx 1 30 16 12 (settings 128 32 2 4 0) 0
+    ∷ known VclmulVx 1 31 16 12 (settings 128 32 2 4 0) 6
+    ∷ known VclmulVx 1 4 16 12 (settings 128 32 4 4 0) 0
+    ∷ known VclmulVx 1 6 16 12 (settings 128 32 4 4 0) 6
+    ∷ known VclmulVx 1 8 16 12 (settings 128 32 8 4 0) 0
+    ∷ known VclmulVx 1 12 16 12 (settings 128 32 8 4 0) 6
+    ∷ known VclmulVv 1 5 8 12 (settings 128 32 2 4 0) 6
+    ∷ known VclmulhVv 1 5 8 12 (settings 128 32 2 4 0) 6
+    ∷ known VclmulhVx 1 5 8 12 (settings 128 32 2 4 0) 6
+    ∷ known VghshVv 1 5 8 12 (settings 128 32 2 4 0) 6
+    ∷ known VghshVs 1 5 8 12 (settings 128 32 2 4 0) 6
+    ∷ known VgmulVv 1 5 8 17 (settings 128 32 2 4 0) 6
+    ∷ known VgmulVs 1 5 8 17 (settings 128 32 2 4 0) 6
+    -- 6: vs2, except in .vs words
+    ∷ known VclmulVv 1 4 9 12 (settings 128 32 2 4 0) 6
+    ∷ known VclmulVx 1 4 9 12 (settings 128 32 2 4 0) 6
+    ∷ known VclmulhVv 1 4 9 12 (settings 128 32 2 4 0) 6
+    ∷ known VclmulhVx 1 4 9 12 (settings 128 32 2 4 0) 6
+    ∷ known VghshVv 1 4 9 12 (settings 128 32 2 4 0) 6
+    ∷ known VgmulVv 1 4 9 17 (settings 128 32 2 4 0) 6
+    ∷ known VghshVs 1 4 9 12 (settings 128 32 2 4 0) 0
+    ∷ known VgmulVs 1 4 9 17 (settings 128 32 2 4 0) 0
+    -- 6: vs1 in .vv carry-less words and both vghsh words; rs1, and the 17 that vgmul has there, are no groups
+    ∷ known VclmulVv 1 4 8 13 (settings 128 32 2 4 0) 6
+    ∷ known VclmulVx 1 4 8 13 (settings 128 32 2 4 0) 0
+    ∷ known VclmulhVv 1 4 8 13 (settings 128 32 2 4 0) 6
+    ∷ known VclmulhVx 1 4 8 13 (settings 128 32 2 4 0) 0
+    ∷ known VghshVv 1 4 8 13 (settings 128 32 2 4 0) 6
+    ∷ known VghshVs 1 4 8 13 (settings 128 32 2 4 0) 6
+    ∷ known VgmulVv 1 4 8 17 (settings 128 32 2 4 0) 0
+    ∷ known VgmulVs 1 4 8 17 (settings 128 32 2 4 0) 0
+    -- 7: a .vs word and vs2 equals vd
+    ∷ known VghshVs 1 4 4 12 (settings 128 32 1 4 0) 7
+    ∷ known VghshVs 1 4 5 12 (settings 128 32 1 4 0) 0
+    ∷ known VgmulVs 1 4 4 17 (settings 128 32 1 4 0) 7
+    ∷ known VgmulVs 1 4 5 17 (settings 128 32 1 4 0) 0
+    ∷ known VghshVv 1 4 4 12 (settings 128 32 1 4 0) 0
+    ∷ known VgmulVv 1 4 4 17 (settings 128 32 1 4 0) 0
+    -- 8: vm is 0 and vd, vs2 or (.vv) vs1 is register 0
+    ∷ known VclmulVv 0 0 8 12 (settings 128 32 1 4 0) 8
+    ∷ known VclmulVv 0 4 0 12 (settings 128 32 1 4 0) 8
+    ∷ known VclmulVv 0 4 8 0 (settings 128 32 1 4 0) 8
+    ∷ known VclmulVv 0 1 1 1 (settings 128 32 1 4 0) 0
+    ∷ known VclmulVv 1 0 0 0 (settings 128 32 1 4 0) 0
+    ∷ known VclmulVx 0 0 8 12 (settings 128 32 1 4 0) 8
+    ∷ known VclmulVx 0 4 0 12 (settings 128 32 1 4 0) 8
+    ∷ known VclmulVx 0 4 8 0 (settings 128 32 1 4 0) 0
+    ∷ known VclmulVx 0 1 1 1 (settings 128 32 1 4 0) 0
+    ∷ known VclmulVx 1 0 0 0 (settings 128 32 1 4 0) 0
+    ∷ known VclmulhVv 0 0 8 12 (settings 128 32 1 4 0) 8
+    ∷ known VclmulhVv 0 4 0 12 (settings 128 32 1 4 0) 8
+    ∷ known VclmulhVv 0 4 8 0 (settings 128 32 1 4 0) 8
+    ∷ known VclmulhVv 0 1 1 1 (settings 128 32 1 4 0) 0
+    ∷ known VclmulhVv 1 0 0 0 (settings 128 32 1 4 0) 0
+    ∷ known VclmulhVx 0 0 8 12 (settings 128 32 1 4 0) 8
+    ∷ known VclmulhVx 0 4 0 12 (settings 128 32 1 4 0) 8
+    ∷ known VclmulhVx 0 4 8 0 (settings 128 32 1 4 0) 0
+    ∷ known VclmulhVx 0 1 1 1 (settings 128 32 1 4 0) 0
+    ∷ known VclmulhVx 1 0 0 0 (settings 128 32 1 4 0) 0
+    -- where several apply the smallest is given: each number with the next that can stand beside it
+    ∷ call 511 0x00000000 (settings 128 24 1 4 0) 1
+    ∷ call 512 0x00000000 (settings 128 24 1 4 0) 2
+    ∷ call 512 0xB2862277 (settings 128 24 1 5 0) 3
+    ∷ call 512 0xB2862277 (settings 128 16 1 5 0) 4
+    ∷ known VghshVv 1 5 8 12 (settings 128 32 2 5 0) 5
+    ∷ known VgmulVs 1 5 5 17 (settings 128 32 2 4 0) 6
+    ∷ known VclmulVv 0 0 9 12 (settings 128 32 2 4 0) 6
+    -- the group question: 1 as above, 3 if LMUL isn't allowed, 6 if the register is over 31 or no multiple of LMUL, else 0
+    ∷ question 128 512 1 31 0
+    ∷ question 128 512 1 32 6
+    ∷ question 128 512 2 30 0
+    ∷ question 128 512 2 31 6
+    ∷ question 128 512 2 32 6
+    ∷ question 256 1024 4 28 0
+    ∷ question 256 1024 4 30 6
+    ∷ question 512 2048 8 24 0
+    ∷ question 512 2048 8 28 6
+    ∷ question 128 512 0 0 3
+    ∷ question 128 512 3 0 3
+    ∷ question 128 512 16 0 3
+    ∷ question 128 511 1 0 1
+    ∷ question 128 513 1 0 1
+    ∷ question 64 256 1 0 1
+    ∷ question 128 511 3 32 1
+    ∷ question 128 512 3 32 3
+    -- 9: a key or block not 16 bytes long
+    ∷ times 16 16 0
+    ∷ times 15 16 9
+    ∷ times 17 16 9
+    ∷ times 16 15 9
+    ∷ times 16 17 9
+    ∷ hash 16 0 0 0
+    ∷ hash 15 0 0 9
+    ∷ hash 17 0 0 9
+    -- 11: A or C would pass 1,048,576 bytes; 9 comes before it
+    ∷ hash 16 1048576 0 0
+    ∷ hash 16 1048577 0 11
+    ∷ hash 16 0 1048576 0
+    ∷ hash 16 0 1048577 11
+    ∷ hash 16 1048576 1048576 0
+    ∷ hash 15 1048577 0 9
+    -- malformed: a phase over 2
+    ∷ state 0 0 0 0 0x00 false
+    ∷ state 1 0 0 0 0x00 false
+    ∷ state 2 0 0 0 0x00 false
+    ∷ state 3 0 0 0 0x00 true
+    -- malformed: a count over the limit
+    ∷ state 0 1048576 0 0 0x00 false
+    ∷ state 0 1048577 0 0 0x00 true
+    ∷ state 1 1048576 0 0 0x00 false
+    ∷ state 1 1048577 0 0 0x00 true
+    ∷ state 2 1048576 0 0 0x00 false
+    ∷ state 2 1048577 0 0 0x00 true
+    ∷ state 1 0 1048576 0 0x00 false
+    ∷ state 1 0 1048577 0 0x00 true
+    ∷ state 2 0 1048576 0 0x00 false
+    ∷ state 2 0 1048577 0 0x00 true
+    -- malformed: in phase 0 a C count that isn't 0
+    ∷ state 0 0 1 15 0x00 true
+    ∷ state 1 0 1 15 0x00 false
+    ∷ state 2 0 1 15 0x00 false
+    -- malformed: an open byte that isn't zero at or after the count of the current part modulo 16. In phase 0 the part is A
+    ∷ state 0 21 0 4 0x80 false
+    ∷ state 0 21 0 5 0x80 true
+    ∷ state 0 21 0 15 0x01 true
+    ∷ state 0 31 0 14 0x01 false
+    ∷ state 0 31 0 15 0x01 true
+    ∷ state 0 32 0 0 0x01 true
+    -- in phase 1 it is C
+    ∷ state 1 31 21 4 0x80 false
+    ∷ state 1 31 21 5 0x80 true
+    ∷ state 1 31 21 15 0x01 true
+    ∷ state 1 0 31 14 0x01 false
+    ∷ state 1 31 32 0 0x01 true
+    -- in phase 2, at any place
+    ∷ state 2 31 31 0 0x00 false
+    ∷ state 2 31 31 0 0x01 true
+    ∷ state 2 31 31 14 0x01 true
+    ∷ state 2 31 31 15 0x80 true
+    -- 9 and 10 of the running hash: the key's length, then the phase and malformed
+    ∷ feeds 0 5 0 16 1 0 0 0
+    ∷ feeds 0 5 0 15 1 9 9 9
+    ∷ feeds 0 5 0 17 1 9 9 9
+    ∷ feeds 1 5 0 16 0 10 0 0
+    ∷ feeds 1 5 7 16 1 10 0 0
+    ∷ feeds 2 5 7 16 0 10 10 10
+    ∷ feeds 3 5 7 16 1 10 10 10
+    ∷ feeds 0 5 7 16 1 10 10 10
+    ∷ feeds 2 5 7 15 0 9 9 9
+    -- 11 of the running hash; 9 and 10 come before it
+    ∷ feeds 0 1048575 0 16 1 0 0 0
+    ∷ feeds 0 1048575 0 16 2 11 0 0
+    ∷ feeds 0 1048576 0 16 0 0 0 0
+    ∷ feeds 0 1048576 0 16 1 11 0 0
+    ∷ feeds 1 3 1048575 16 1 10 0 0
+    ∷ feeds 1 3 1048575 16 2 10 11 0
+    ∷ feeds 1 3 1048576 16 0 10 0 0
+    ∷ feeds 1 3 1048576 16 1 10 11 0
+    ∷ feeds 1 3 1048576 15 1 9 9 9
+    ∷ feeds 2 3 1048576 16 1 10 10 10
+    -- 12, degree: zero block
+    ∷ degree 0 12 0
+    ∷ degree 1 0 127
+    ∷ degree 2 0 126
+    ∷ degree 0x80000000000000000000000000000000 0 0
+    ∷ degree 0xC0000000000000000000000000000000 0 1
+    -- 12 and 13, step back: no earlier hash, or more than one; under a key that is not zero there is one
+    ∷ back 0 5 0 13 0
+    ∷ back 0 5 1 12 0
+    ∷ back 1 5 0 0 5
+    ∷ back 0x40000000000000000000000000000001 5 0x5B28000000000000000000000000000E 0 0x80000000000000000000000000000000
+    -- vclmul.vv v4, v8, v12, v0.t on bytes 1 to 5; mask bits 0, 1, 3 and 5 are 1
+    ∷ execution 0x30862257 (settings 128 8 1 6 1) 0
+    ((0, 0x2BFF0000000000000000000000000000) ∷ (4, 0x11111111111111111111111111111111) ∷ (8, 0x03FF8080FFFF03000000000000000000) ∷
+    (12, 0x0303FF8002FF03000000000000000000) ∷ [])
+    ((4, 0x11011100115511111111111111111111) ∷ []) 0
+    -- vclmulh.vv v4, v8, v12 on element 1 of 64 bits
+    ∷ execution 0x36862257 (settings 128 64 1 2 1) 0
+    ((4, 0x11111111111111111111111111111111) ∷ (8, 0x00000000000000010000000000000080) ∷ (12, 0xFFFFFFFFFFFFFFFF0102000000000080) ∷ [])
+    ((4, 0x11111111111111110001000000000040) ∷ []) 0
+    -- vclmul.vx v4, v8, x31: the scalar modulo 2^8
+    ∷ execution 0x328FE257 (settings 128 8 1 2 0) 0xFFFFFFFFFFFFFF03
+    ((4, 0x11111111111111111111111111111111) ∷ (8, 0x030580FF000000000000000000000000) ∷ [])
+    ((4, 0x050F1111111111111111111111111111) ∷ []) 0
+    -- vclmul.vx v4, v8, x0: the scalar counts as zero
+    ∷ execution 0x32806257 (settings 128 8 1 2 0) 0xFFFFFFFFFFFFFF03
+    ((4, 0x11111111111111111111111111111111) ∷ (8, 0x030580FF000000000000000000000000) ∷ [])
+    ((4, 0x00001111111111111111111111111111) ∷ []) 0
+    -- vclmulh.vx v4, v8, x1 on element 1 of 32 bits
+    ∷ execution 0x3680E257 (settings 128 32 1 2 1) 0xFFFFFFFF80000002
+    ((4, 0x11111111111111111111111111111111) ∷ (8, 0x00000080010000800000000000000000) ∷ [])
+    ((4, 0x11111111010000401111111111111111) ∷ []) 0
+    -- vghsh.vv v4, v8, v12
+    ∷ execution 0xB2862277 (settings 128 32 1 4 0) 0
+    ((4, 0x80000000000000000000000000000001) ∷ (8, 0x40000000000000000000000000000000) ∷ (12, 0x00000000000000000000000000000002) ∷ [])
+    ((4, 0xA1000000000000000000000000000001) ∷ []) 0
+    -- vghsh.vs v4, v8, v12 on group 1; H is group 0 of v8
+    ∷ execution 0x8E862277 (settings 128 32 2 8 4) 0
+    ((4, 0x80000000000000000000000000000001) ∷ (5, 0x80000000000000000000000000000000) ∷ (8, 0x40000000000000000000000000000000) ∷
+    (12, 0x00000000000000000000000000000002) ∷ (13, 0x00000000000000000000000000000003) ∷ [])
+    ((5, 0xA1000000000000000000000000000001) ∷ []) 0
+    -- vgmul.vv v4, v8 on two groups, each with its own H
+    ∷ execution 0xA288A277 (settings 128 32 2 8 0) 0
+    ((4, 0x80000000000000000000000000000001) ∷ (5, 0x00000000000000000000000000000003) ∷ (8, 0x40000000000000000000000000000000) ∷
+    (9, 0x20000000000000000000000000000000) ∷ [])
+    ((4, 0xA1000000000000000000000000000000) ∷ (5, 0x91800000000000000000000000000000) ∷ []) 0
+    -- vgmul.vs v4, v8 on two groups
+    ∷ execution 0xA688A277 (settings 128 32 2 8 0) 0
+    ((4, 0x80000000000000000000000000000001) ∷ (5, 0x00000000000000000000000000000003) ∷ (8, 0x40000000000000000000000000000000) ∷
+    (9, 0x20000000000000000000000000000000) ∷ [])
+    ((4, 0xA1000000000000000000000000000000) ∷ (5, 0xE1000000000000000000000000000001) ∷ []) 0
+    -- vstart at vl: nothing is written, and vstart becomes 0
+    ∷ execution 0xA288A277 (settings 128 32 2 4 4) 0
+    ((4, 0x80000000000000000000000000000001) ∷ (8, 0x40000000000000000000000000000000) ∷ [])
+    [] 0
+    -- refused with 5: the file and vstart stay
+    ∷ execution 0xA288A277 (settings 128 32 2 4 2) 0
+    ((4, 0x80000000000000000000000000000001) ∷ (8, 0x40000000000000000000000000000000) ∷ [])
+    [] 2
+    ∷ []
+
+-- every example of a list holds
+abbrev pub AllHold : List Example → Type 0
+AllHold [] = Unit {0}
+AllHold (e ∷ es) = Holds e × AllHold es
+
+-- the statement: the rows are so many, and all of them hold
+pub record ExamplesHold : Type 0 where
+  pub rows : length table ≡ 249
+  pub all : AllHold table
