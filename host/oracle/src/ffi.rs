@@ -1,6 +1,6 @@
 //! The C declarations of rvghash.h.
 
-use std::mem::{offset_of, size_of};
+use std::mem::size_of;
 
 #[repr(C)]
 pub struct Running {
@@ -13,7 +13,7 @@ pub struct Running {
 }
 
 pub const RUNNING_SIZE: usize = size_of::<Running>();
-const _: () = assert!(RUNNING_SIZE == 48 && offset_of!(Running, phase) == 40);
+const _: () = assert!(RUNNING_SIZE == 48);
 
 pub type Product = unsafe extern "C" fn(*const u8, usize, *const u8, usize, *mut u8, usize) -> u32;
 pub type Ghash = unsafe extern "C" fn(*const u8, usize, *const u8, usize, *const u8, usize, *mut u8, usize) -> u32;
@@ -45,21 +45,21 @@ extern "C" {
         out: *mut u8, out_len: usize,
     ) -> u32;
     pub fn rvghash_degree(block: *const u8, block_len: usize, degree: *mut u32) -> u32;
-    pub fn rvghash_running_new(running: *mut Running);
+    pub fn rvghash_running_new(state: *mut Running);
     fn rvghash_feed_a(
-        running: *mut Running, key: *const u8, key_len: usize, piece: *const u8, piece_len: usize,
+        state: *mut Running, key: *const u8, key_len: usize, piece: *const u8, piece_len: usize,
     ) -> u32;
     fn rvghash_feed_c(
-        running: *mut Running, key: *const u8, key_len: usize, piece: *const u8, piece_len: usize,
+        state: *mut Running, key: *const u8, key_len: usize, piece: *const u8, piece_len: usize,
     ) -> u32;
     fn rvghash_feed_a_plain(
-        running: *mut Running, key: *const u8, key_len: usize, piece: *const u8, piece_len: usize,
+        state: *mut Running, key: *const u8, key_len: usize, piece: *const u8, piece_len: usize,
     ) -> u32;
     fn rvghash_feed_c_plain(
-        running: *mut Running, key: *const u8, key_len: usize, piece: *const u8, piece_len: usize,
+        state: *mut Running, key: *const u8, key_len: usize, piece: *const u8, piece_len: usize,
     ) -> u32;
-    fn rvghash_finish(running: *mut Running, key: *const u8, key_len: usize, out: *mut u8, out_len: usize) -> u32;
-    fn rvghash_finish_plain(running: *mut Running, key: *const u8, key_len: usize, out: *mut u8, out_len: usize) -> u32;
+    fn rvghash_finish(state: *mut Running, key: *const u8, key_len: usize, out: *mut u8, out_len: usize) -> u32;
+    fn rvghash_finish_plain(state: *mut Running, key: *const u8, key_len: usize, out: *mut u8, out_len: usize) -> u32;
 }
 
 /// The library's two ways to a product.

@@ -53,7 +53,7 @@ impl Lent {
 
     fn new(name: &'static str, access: Access, capacity: usize) -> Lent {
         let page = page_size();
-        let size = (capacity + 2 * FRESH_GUARD).next_multiple_of(page);
+        let size = (capacity + 2 * FRESH_GUARD + page - 1) / page * page;
         let whole = map(size + 2 * page, PROT_NONE, 0).expect("memory for a lent buffer");
         let start = whole.wrapping_add(page);
         // SAFETY: the pages lie inside the mapping made above.
@@ -88,7 +88,7 @@ impl Lent {
         memory[guards.clone()].copy_from_slice(&self.shadow[guards]);
         match (self.len, rng.below(4)) {
             (0, 0) => null_mut(),
-            (0, 1) => std::ptr::without_provenance_mut(1),
+            (0, 1) => 1 as *mut u8,
             (0, 2) => self.start.wrapping_sub(1),
             _ => self.start.wrapping_add(self.at),
         }

@@ -39,10 +39,10 @@ fn options(mut arguments: impl Iterator<Item = String>) -> Option<Options> {
 }
 
 fn main() {
-    let Some(options) = options(std::env::args().skip(1)) else {
+    let options = options(std::env::args().skip(1)).unwrap_or_else(|| {
         eprintln!("{USAGE}");
-        exit(2);
-    };
+        exit(2)
+    });
     println!("seed {}, factor {}", options.run.seed, options.run.factor);
     if !self_check::run(options.run.seed) {
         exit(1);

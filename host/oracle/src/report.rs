@@ -53,7 +53,8 @@ impl Group {
         F: FnOnce() -> Seen<T>,
     {
         let under_way = UnderWay { group: self, inputs };
-        UNDER_WAY.store((&raw const under_way).cast_mut().cast(), Ordering::Relaxed);
+        let place: *const UnderWay = &under_way;
+        UNDER_WAY.store(place as *mut UnderWay as *mut UnderWay<'static>, Ordering::Relaxed);
         let library = library();
         UNDER_WAY.store(null_mut(), Ordering::Relaxed);
         if library != model {

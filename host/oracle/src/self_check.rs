@@ -131,7 +131,7 @@ fn hex(text: &str) -> Vec<u8> {
 fn decoder_follows_table(rng: &mut Rng) -> bool {
     let by_fields = |word: u32| {
         let field = |low: u32, size: u32| word >> low & ((1 << size) - 1);
-        let fits = |wanted: Option<u32>, found: u32| wanted.is_none_or(|w| w == found);
+        let fits = |wanted: Option<u32>, found: u32| wanted.map_or(true, |w| w == found);
         let row = TABLE.iter().find(|row| {
             (field(26, 6), field(12, 3), field(0, 7)) == (row.funct6, row.funct3, row.opcode)
                 && fits(row.vm, field(25, 1))
@@ -144,7 +144,7 @@ fn decoder_follows_table(rng: &mut Rng) -> bool {
         let row = &TABLE[rng.below(8)];
         let word = row.encode(vm, vs2, vs1, vd);
         let damaged = word ^ 1 << rng.below(32);
-        decode(word).is_some_and(|w| w.kind == row.kind && (w.vs2, w.vd) == (vs2, vd))
+        decode(word).map_or(false, |w| w.kind == row.kind && (w.vs2, w.vd) == (vs2, vd))
             && [word, damaged, rng.u32()].iter().all(|&w| decode(w) == by_fields(w))
     })
 }

@@ -14,9 +14,9 @@ const PAST: usize = 1 << 32;
 
 pub fn run(run: &Run) {
     let mut group = Group::new(run, "lengths past 2^32");
-    let Some(zeros) = huge(PAST + 2 * LIMIT) else {
-        println!("lengths past 2^32: left out, the system gives no such address space");
-        return;
+    let zeros = match huge(PAST + 2 * LIMIT) {
+        Some(zeros) => zeros,
+        None => return println!("skipped: lengths past 2^32: the system gives no such address space"),
     };
     let mut rng = group.rng(0);
     execute_file(&mut group, &mut rng, zeros);
@@ -33,7 +33,7 @@ fn execute_file(group: &mut Group, rng: &mut Rng, zeros: &[u8]) {
         let file_len = PAST + 4 * vlen as usize;
         group.compare(&("rvghash_execute", vlen, file_len), Seen::expected(1, Bytes(vec![8, 0, 0, 0])), || {
             let vstart_pointer = vstart.lend_aligned(rng, &[8, 0, 0, 0], 4).cast();
-            let file = zeros.as_ptr().cast_mut();
+            let file = zeros.as_ptr() as *mut u8;
             // SAFETY: the file is readable; the call must refuse it, and a write would be a crash, which is told.
             let answer = unsafe { rvghash_execute(0x3221_E0D7, vlen, 8, 1, 9, vstart_pointer, 3, file, file_len) };
             Seen { answer, left: Bytes(vstart.content().to_vec()), stray: strays(&[&vstart]) }

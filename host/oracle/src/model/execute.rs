@@ -2,7 +2,7 @@
 
 use super::field::{sixteen, step, Block, ZERO};
 use super::poly::Poly;
-use super::refusal::smallest;
+use super::refusal::{is_multiple, smallest};
 use super::word::{decode, Word};
 
 pub const VLENS: [u32; 3] = [128, 256, 512];
@@ -36,15 +36,15 @@ pub fn execute(r: &Request) -> Outcome {
 }
 
 fn refusal(r: &Request, word: Option<Word>) -> u32 {
-    let is = |holds: &dyn Fn(&Word) -> bool| word.as_ref().is_some_and(holds);
+    let is = |holds: &dyn Fn(&Word) -> bool| word.as_ref().map_or(false, holds);
     let over_vlmax = r.vl as u64 * r.sew as u64 > r.lmul as u64 * r.vlen as u64;
     smallest(&[
         (1, !VLENS.contains(&r.vlen) || r.file.len() as u128 != 32 * r.vlen as u128 / 8),
         (2, word.is_none()),
         (3, !SEWS.contains(&r.sew) || !LMULS.contains(&r.lmul) || over_vlmax),
         (4, is(&|w| w.kind.is_ghash() && r.sew != 32)),
-        (5, is(&|w| w.kind.is_ghash() && !(r.vl.is_multiple_of(4) && r.vstart.is_multiple_of(4)))),
-        (6, is(&|w| w.groups().iter().any(|g| !g.is_multiple_of(r.lmul)))),
+        (5, is(&|w| w.kind.is_ghash() && !(is_multiple(r.vl, 4) && is_multiple(r.vstart, 4)))),
+        (6, is(&|w| w.groups().iter().any(|&g| !is_multiple(g, r.lmul)))),
         (7, is(&|w| w.kind.is_vs() && w.vs2 == w.vd)),
         (8, is(&|w| !w.vm && w.beside_mask().contains(&0))),
     ])

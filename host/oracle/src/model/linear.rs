@@ -19,7 +19,7 @@ struct Combination {
 fn reduce(pivots: &[Option<Combination>; 128], v: &mut Combination) {
     let mut open = v.sum;
     while open != 0 {
-        let place = open.ilog2();
+        let place = 127 - open.leading_zeros();
         if let Some(pivot) = pivots[place as usize] {
             v.sum ^= pivot.sum;
             v.columns ^= pivot.columns;
@@ -37,7 +37,7 @@ pub fn solve(columns: &[u128; 128], target: u128) -> Solutions {
         reduce(&pivots, &mut v);
         match v.sum {
             0 => dependent = true,
-            sum => pivots[sum.ilog2() as usize] = Some(v),
+            sum => pivots[127 - sum.leading_zeros() as usize] = Some(v),
         }
     }
     let mut v = Combination { sum: target, columns: 0 };

@@ -12,8 +12,8 @@ impl Poly {
     pub fn degree(self) -> Option<u32> {
         match (self.high, self.low) {
             (0, 0) => None,
-            (0, low) => Some(low.ilog2()),
-            (high, _) => Some(128 + high.ilog2()),
+            (0, low) => Some(127 - low.leading_zeros()),
+            (high, _) => Some(255 - high.leading_zeros()),
         }
     }
 

@@ -7,6 +7,11 @@ pub fn smallest(list: &[(u32, bool)]) -> u32 {
     list.iter().filter(|(_, applies)| *applies).map(|(number, _)| *number).min().unwrap_or(0)
 }
 
+/// Whether n is a multiple of m; of 0 only 0 is.
+pub fn is_multiple(n: u32, m: u32) -> bool {
+    n.checked_rem(m).unwrap_or(n) == 0
+}
+
 /// An answer and the block that goes with it: 16 zero bytes with a refusal.
 #[derive(Clone, Copy, PartialEq, Eq, Debug)]
 pub struct Returned {
