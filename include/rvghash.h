@@ -2,9 +2,16 @@
  * rvghash: a proved executor of the RISC-V vector GHASH and carry-less multiply instructions, and the GHASH
  * arithmetic around it. Every function answers for every input: a refusal is a number of enum rvghash_number.
  *
- * A length that goes with a pointer is a number of bytes; where it is 0 the pointer may be anything. What is lent
- * must not overlap: no two arguments of one call may share memory that the call writes.
- * No function allocates, blocks, keeps a pointer after it returns, or has state of its own.
+ * The rules of every call:
+ * - Overlap. What a call may write overlaps nothing else that is lent to it. What it only reads may overlap.
+ * - Pointers. A length that goes with a pointer is a number of bytes. Where it is 0 the pointer may be anything, NULL
+ *   too; else it points to that many bytes, at any alignment. A pointer without a length (vstart, degree, state) is
+ *   not NULL and has the alignment of what it points to: 4 bytes for a uint32_t, 8 for a running hash.
+ * - Threads. No function allocates, blocks, keeps a pointer after it returns, or has state of its own. Each may run in
+ *   any thread, on any core and in a handler, and at the same time as any other call, as long as no call writes
+ *   memory that another one reads or writes.
+ * - Names. A name without a suffix is the primary one, and takes the fast path where there are two. The same name with
+ *   _plain goes bit by bit, with the same answers; with _fast it is the primary one again.
  */
 #ifndef RVGHASH_H
 #define RVGHASH_H
@@ -12,25 +19,44 @@
 #include <stddef.h>
 #include <stdint.h>
 
+/* The version, as the file VERSION has it. */
+#define RVGHASH_VERSION_MAJOR 0
+#define RVGHASH_VERSION_MINOR 1
+#define RVGHASH_VERSION_PATCH 0
+#define RVGHASH_VERSION_STRING "0.1.0"
+
+#define RVGHASH_BLOCK_BYTES 16                             /* of a key, a block, a hash */
+#define RVGHASH_LIMIT_BYTES 1048576                        /* the most that A may have, and C */
+#define RVGHASH_FILE_BYTES(vlen) (32 * (size_t)(vlen) / 8) /* of the register file; VLEN is 128, 256 or 512 */
+
+/* On each function that answers: a compiler that can do so warns where the answer is not looked at. */
+#if defined(__cplusplus) && __cplusplus >= 201703L
+#define RVGHASH_MUST_USE [[nodiscard]]
+#elif defined(__GNUC__)
+#define RVGHASH_MUST_USE __attribute__((warn_unused_result))
+#else
+#define RVGHASH_MUST_USE
+#endif
+
 #ifdef __cplusplus
 extern "C" {
 #endif
 
 /* The refusal numbers. Where several apply the smallest is given. */
 enum rvghash_number {
-    RVGHASH_DONE = 0,              /* done */
+    RVGHASH_DONE = 0,              /* done; the executor sets vstart to 0 */
     RVGHASH_BAD_VLEN_OR_FILE = 1,  /* VLEN not 128, 256 or 512, or the file's length not 32 * VLEN / 8 */
     RVGHASH_NOT_A_WORD = 2,        /* the word is none of the eight */
     RVGHASH_BAD_SETTINGS = 3,      /* SEW or LMUL not allowed, or vl over VLMAX */
     RVGHASH_SEW_NOT_32 = 4,        /* a GHASH word and SEW is not 32 */
     RVGHASH_NOT_MULTIPLE_OF_4 = 5, /* a GHASH word and vl or vstart no multiple of 4 */
-    RVGHASH_BAD_GROUP = 6,         /* a register group's number no multiple of LMUL (group question: or over 31) */
+    RVGHASH_BAD_GROUP = 6,         /* a register group's number is no multiple of LMUL, or (group question) over 31 */
     RVGHASH_KEY_OVERLAP = 7,       /* a .vs word and vs2 equals vd */
     RVGHASH_MASK_OVERLAP = 8,      /* vm is 0 and vd, vs2 or (.vv) vs1 is register 0 */
     RVGHASH_NOT_16_BYTES = 9,      /* a key or block not 16 bytes long */
     RVGHASH_BAD_RUNNING = 10,      /* running hash in the wrong phase, or malformed */
     RVGHASH_TOO_LONG = 11,         /* A or C would pass 1,048,576 bytes */
-    RVGHASH_NONE = 12,             /* step back: no earlier hash; degree: the zero block */
+    RVGHASH_NONE = 12,             /* step back: no earlier hash; degree: zero block */
     RVGHASH_MANY = 13              /* step back: more than one earlier hash */
 };
 
@@ -41,6 +67,7 @@ enum rvghash_number {
  * Refused (1 to 8): the file and *vstart are as before.
  * scalar is the value of x register rs1, used by the .vx words; where rs1 is field 0 it counts as zero.
  */
+RVGHASH_MUST_USE
 uint32_t rvghash_execute(uint32_t word, uint32_t vlen, uint32_t sew, uint32_t lmul, uint32_t vl, uint32_t *vstart,
                          uint64_t scalar, uint8_t *file, size_t file_len);
 
@@ -48,6 +75,7 @@ uint32_t rvghash_execute(uint32_t word, uint32_t vlen, uint32_t sew, uint32_t lm
  * Whether a register group exists: 1 as above, 3 if LMUL is not allowed, 6 if the register is over 31 or no multiple
  * of LMUL, else 0, and the group is then the lmul * vlen / 8 bytes from reg * vlen / 8 on. Nothing is lent.
  */
+RVGHASH_MUST_USE
 uint32_t rvghash_group_refusal(uint32_t vlen, size_t file_len, uint32_t lmul, uint32_t reg);
 
 /*
@@ -56,10 +84,13 @@ uint32_t rvghash_group_refusal(uint32_t vlen, size_t file_len, uint32_t lmul, ui
  * Done (0): out holds the product. Refused (9): out holds 16 zero bytes; an out that is not 16 bytes long is not
  * written.
  */
+RVGHASH_MUST_USE
 uint32_t rvghash_product_plain(const uint8_t *key, size_t key_len, const uint8_t *block, size_t block_len,
                                uint8_t *out, size_t out_len);
+RVGHASH_MUST_USE
 uint32_t rvghash_product_fast(const uint8_t *key, size_t key_len, const uint8_t *block, size_t block_len,
                               uint8_t *out, size_t out_len);
+#define rvghash_product rvghash_product_fast
 
 /*
  * GHASH of SP 800-38D over a whole A and C under a key.
@@ -67,10 +98,13 @@ uint32_t rvghash_product_fast(const uint8_t *key, size_t key_len, const uint8_t 
  * Done (0): out holds the hash. Refused (9, 11): out holds 16 zero bytes; an out that is not 16 bytes long is not
  * written.
  */
+RVGHASH_MUST_USE
 uint32_t rvghash_ghash_plain(const uint8_t *key, size_t key_len, const uint8_t *a, size_t a_len, const uint8_t *c,
                              size_t c_len, uint8_t *out, size_t out_len);
+RVGHASH_MUST_USE
 uint32_t rvghash_ghash_fast(const uint8_t *key, size_t key_len, const uint8_t *a, size_t a_len, const uint8_t *c,
                             size_t c_len, uint8_t *out, size_t out_len);
+#define rvghash_ghash rvghash_ghash_fast
 
 /*
  * The step back: the partial hash Y with (Y xor block) * key = later.
@@ -78,6 +112,7 @@ uint32_t rvghash_ghash_fast(const uint8_t *key, size_t key_len, const uint8_t *a
  * Done (0): out holds the only such Y. Refused (9; 12, there is none; 13, there are several): out holds 16 zero bytes;
  * an out that is not 16 bytes long is not written.
  */
+RVGHASH_MUST_USE
 uint32_t rvghash_step_back(const uint8_t *key, size_t key_len, const uint8_t *block, size_t block_len,
                            const uint8_t *later, size_t later_len, uint8_t *out, size_t out_len);
 
@@ -86,6 +121,7 @@ uint32_t rvghash_step_back(const uint8_t *key, size_t key_len, const uint8_t *bl
  * Lent: block, 16 bytes, only read; degree, one number.
  * Done (0): *degree is the place. Refused (9; 12 for the zero block): *degree is 0.
  */
+RVGHASH_MUST_USE
 uint32_t rvghash_degree(const uint8_t *block, size_t block_len, uint32_t *degree);
 
 /*
@@ -101,33 +137,42 @@ struct rvghash_running {
     uint8_t phase;
 };
 
-/* Makes a fresh running hash. Lent: running, written whole. */
-void rvghash_running_new(struct rvghash_running *running);
+/* Makes a fresh running hash. Lent: state, written whole. */
+void rvghash_running_new(struct rvghash_running *state);
 
 /*
  * Takes a piece of A, or of C; the first C, even of length 0, ends A. Feeding and finishing may mix the paths.
- * Lent: running; key, 16 bytes, and piece, only read.
- * Done (0): *running has taken the piece. Refused (9, 10, 11): *running is as before.
+ * Lent: state; key, 16 bytes, and piece, only read.
+ * Done (0): *state has taken the piece. Refused (9, 10, 11): *state is as before.
  */
-uint32_t rvghash_feed_a(struct rvghash_running *running, const uint8_t *key, size_t key_len, const uint8_t *piece,
+RVGHASH_MUST_USE
+uint32_t rvghash_feed_a(struct rvghash_running *state, const uint8_t *key, size_t key_len, const uint8_t *piece,
                         size_t piece_len);
-uint32_t rvghash_feed_c(struct rvghash_running *running, const uint8_t *key, size_t key_len, const uint8_t *piece,
+RVGHASH_MUST_USE
+uint32_t rvghash_feed_c(struct rvghash_running *state, const uint8_t *key, size_t key_len, const uint8_t *piece,
                         size_t piece_len);
-uint32_t rvghash_feed_a_plain(struct rvghash_running *running, const uint8_t *key, size_t key_len,
+RVGHASH_MUST_USE
+uint32_t rvghash_feed_a_plain(struct rvghash_running *state, const uint8_t *key, size_t key_len,
                               const uint8_t *piece, size_t piece_len);
-uint32_t rvghash_feed_c_plain(struct rvghash_running *running, const uint8_t *key, size_t key_len,
+RVGHASH_MUST_USE
+uint32_t rvghash_feed_c_plain(struct rvghash_running *state, const uint8_t *key, size_t key_len,
                               const uint8_t *piece, size_t piece_len);
+#define rvghash_feed_a_fast rvghash_feed_a
+#define rvghash_feed_c_fast rvghash_feed_c
 
 /*
  * Finishes: adds the length block.
- * Lent: running; key, 16 bytes, only read; out, 16 bytes.
- * Done (0): out holds the hash, which is also *running's Y, and the phase is 2. Refused (9, 10): *running is as before
- * and out holds 16 zero bytes; an out that is not 16 bytes long is not written.
+ * Lent: state; key, 16 bytes, only read; out, 16 bytes.
+ * Done (0): out holds the hash, which is also *state's Y, and the phase is 2. Refused (9, 10): *state is as before and
+ * out holds 16 zero bytes; an out that is not 16 bytes long is not written.
  */
-uint32_t rvghash_finish(struct rvghash_running *running, const uint8_t *key, size_t key_len, uint8_t *out,
+RVGHASH_MUST_USE
+uint32_t rvghash_finish(struct rvghash_running *state, const uint8_t *key, size_t key_len, uint8_t *out,
                         size_t out_len);
-uint32_t rvghash_finish_plain(struct rvghash_running *running, const uint8_t *key, size_t key_len, uint8_t *out,
+RVGHASH_MUST_USE
+uint32_t rvghash_finish_plain(struct rvghash_running *state, const uint8_t *key, size_t key_len, uint8_t *out,
                               size_t out_len);
+#define rvghash_finish_fast rvghash_finish
 
 #ifdef __cplusplus
 }

@@ -43,6 +43,14 @@ void measure(struct item **items, int count, int rounds, double batch_ns)
     }
 }
 
+void expect_done(unsigned number)
+{
+    if (number != 0) {
+        fprintf(stderr, "bench: a call was refused with %u\n", number);
+        exit(1);
+    }
+}
+
 static int by_size(const void *a, const void *b)
 {
     double x = *(const double *)a, y = *(const double *)b;

@@ -20,6 +20,9 @@ double clock_ns(void);
 /* Fits calls to a batch of batch_ns, then runs every item once a round, there and back in turn. */
 void measure(struct item **items, int count, int rounds, double batch_ns);
 
+/* Stops the program if a call of the library was refused: such a time would mean nothing. */
+void expect_done(unsigned number);
+
 /* The median and, as a share of it, the distance between the quartiles. */
 struct summary {
     double median, spread;

@@ -11,12 +11,12 @@
 
 static void fast(const struct key *key, const struct message *m, uint8_t out[16])
 {
-    rvghash_ghash_fast(key->hash, 16, m->bytes, m->length, NULL, 0, out, 16);
+    expect_done(rvghash_ghash_fast(key->hash, 16, m->bytes, m->length, NULL, 0, out, 16));
 }
 
 static void plain(const struct key *key, const struct message *m, uint8_t out[16])
 {
-    rvghash_ghash_plain(key->hash, 16, m->bytes, m->length, NULL, 0, out, 16);
+    expect_done(rvghash_ghash_plain(key->hash, 16, m->bytes, m->length, NULL, 0, out, 16));
 }
 
 #ifdef HAVE_BEARSSL

@@ -115,7 +115,7 @@ double group_products_batch(const void *word_case, long calls)
     double start = clock_ns();
     for (long i = 0; i < calls; i++)
         for (uint32_t g = 0; g < word_parts(c); g++)
-            rvghash_product_fast(part(c, keys, VS2, 16 * g), 16, part(c, y[i % 2], VD, 16 * g), 16,
-                                 part(c, y[1 - i % 2], VD, 16 * g), 16);
+            expect_done(rvghash_product_fast(part(c, keys, VS2, 16 * g), 16, part(c, y[i % 2], VD, 16 * g), 16,
+                                             part(c, y[1 - i % 2], VD, 16 * g), 16));
     return clock_ns() - start;
 }

@@ -1,4 +1,4 @@
-/* Holds the header's declarations and the struct's layout against the library: sizes, offsets, and a call of each. */
+/* Holds the header against the library by use: the struct's layout, the constants, and a call under every name. */
 #include <stddef.h>
 #include <stdio.h>
 #include <string.h>
@@ -23,8 +23,14 @@ static int is_block(const uint8_t *block, uint8_t first, uint8_t last)
     return memcmp(block, want, 16) == 0;
 }
 
+struct after_a_byte {
+    char byte;
+    struct rvghash_running running;
+};
+
 static void layout(void)
 {
+    expect(offsetof(struct after_a_byte, running) == 8, "struct rvghash_running has an alignment of 8");
     expect(sizeof(struct rvghash_running) == 48, "struct rvghash_running is 48 bytes");
     expect(offsetof(struct rvghash_running, y_high) == 0, "y_high is at 0");
     expect(offsetof(struct rvghash_running, y_low) == 8, "y_low is at 8");
@@ -42,9 +48,12 @@ static void fields(void)
     last[15] = 1;
     expect(rvghash_product_plain(last, 16, x, 16, out, 16) == RVGHASH_DONE && is_block(out, 0xE1, 0), "K6, plain");
     expect(rvghash_product_fast(last, 16, x, 16, out, 16) == RVGHASH_DONE && is_block(out, 0xE1, 0), "K6, fast");
+    expect(rvghash_product(last, 16, x, 16, out, 16) == RVGHASH_DONE && is_block(out, 0xE1, 0), "K6, primary name");
+    expect(rvghash_product(x, 16, x, 16, out, 16) == RVGHASH_DONE && is_block(out, 0x20, 0), "key and block in one place");
     expect(rvghash_product_fast(last, 15, x, 16, out, 16) == RVGHASH_NOT_16_BYTES && is_block(out, 0, 0), "a short key");
     expect(rvghash_ghash_plain(one, 16, zero, 0, c, 1, out, 16) == RVGHASH_DONE && is_block(out, 1, 8), "K14, plain");
     expect(rvghash_ghash_fast(one, 16, zero, 0, c, 1, out, 16) == RVGHASH_DONE && is_block(out, 1, 8), "K14, fast");
+    expect(rvghash_ghash(one, 16, NULL, 0, c, 1, out, 16) == RVGHASH_DONE && is_block(out, 1, 8), "K14, primary name");
     expect(rvghash_step_back(x, 16, zero, 16, one, 16, out, 16) == RVGHASH_DONE && is_block(out, 0xC2, 1), "K9");
     expect(rvghash_step_back(zero, 16, zero, 16, zero, 16, out, 16) == RVGHASH_MANY && is_block(out, 0, 0), "K10");
     expect(rvghash_degree(last, 16, &degree) == RVGHASH_DONE && degree == 127, "the degree of x^127");
@@ -59,14 +68,39 @@ static void running(void)
     rvghash_running_new(&r);
     expect(r.y_high == 0 && r.y_low == 0 && r.a_count == 0 && r.c_count == 0 && r.phase == 0, "a fresh running hash");
     expect(rvghash_feed_a(&r, one, 16, c, 0) == RVGHASH_DONE, "an empty piece of A");
+    expect(rvghash_feed_a_fast(&r, one, 16, c, 0) == RVGHASH_DONE, "an empty piece of A, fast");
     expect(rvghash_feed_a_plain(&r, one, 16, c, 0) == RVGHASH_DONE, "an empty piece of A, plain");
     expect(rvghash_feed_c(&r, one, 16, c, 1) == RVGHASH_DONE && r.phase == 1 && r.c_count == 1, "a piece of C");
+    expect(rvghash_feed_c_fast(&r, one, 16, c, 0) == RVGHASH_DONE, "an empty piece of C, fast");
     expect(rvghash_feed_c_plain(&r, one, 16, c, 0) == RVGHASH_DONE, "an empty piece of C, plain");
     before = r;
     expect(rvghash_feed_a(&r, one, 16, c, 1) == RVGHASH_BAD_RUNNING && memcmp(&r, &before, 41) == 0, "A after C");
     expect(rvghash_finish(&r, one, 16, out, 16) == RVGHASH_DONE && is_block(out, 1, 8), "finishing K14");
     expect(r.phase == 2 && r.y_high == 0x0100000000000000u && r.y_low == 8, "the hash is also Y");
+    expect(rvghash_finish_fast(&r, one, 16, out, 16) == RVGHASH_BAD_RUNNING && is_block(out, 0, 0), "finishing again, fast");
     expect(rvghash_finish_plain(&r, one, 16, out, 16) == RVGHASH_BAD_RUNNING && is_block(out, 0, 0), "finishing again");
+}
+
+/* VERSION is the file's content, given by the compiler's line. */
+static void version(void)
+{
+    char parts[32];
+    snprintf(parts, sizeof parts, "%d.%d.%d", RVGHASH_VERSION_MAJOR, RVGHASH_VERSION_MINOR, RVGHASH_VERSION_PATCH);
+    expect(strcmp(RVGHASH_VERSION_STRING, VERSION) == 0, "the version's text is that of the file VERSION");
+    expect(strcmp(parts, VERSION) == 0, "the version's three numbers are those of the file VERSION");
+}
+
+/* The limit itself is taken and one byte more is not; a key and the file's bytes for each VLEN are of the told length. */
+static void constants(void)
+{
+    static uint8_t a[RVGHASH_LIMIT_BYTES + 1];
+    static uint8_t file[RVGHASH_FILE_BYTES(512)];
+    uint8_t one[RVGHASH_BLOCK_BYTES] = {0x80}, out[RVGHASH_BLOCK_BYTES];
+    expect(rvghash_ghash(one, sizeof one, a, RVGHASH_LIMIT_BYTES, NULL, 0, out, sizeof out) == RVGHASH_DONE, "the limit");
+    expect(rvghash_ghash(one, sizeof one, a, sizeof a, NULL, 0, out, sizeof out) == RVGHASH_TOO_LONG, "past the limit");
+    expect(sizeof file == 2048, "VLEN 512 has a file of 2048 bytes");
+    for (uint32_t vlen = 128; vlen <= 512; vlen *= 2)
+        expect(rvghash_group_refusal(vlen, RVGHASH_FILE_BYTES(vlen), 1, 0) == RVGHASH_DONE, "the file's bytes for a VLEN");
 }
 
 /* vclmul.vx v1, v2, x3 on bytes, K1; then a refusal, which leaves vstart. */
@@ -86,11 +120,13 @@ static void vector(void)
 
 int main(void)
 {
+    version();
     layout();
+    constants();
     fields();
     running();
     vector();
     if (!failed)
-        printf("header: the declarations and the layout hold\n");
+        printf("header: the version, the layout, the constants and a call under every name hold\n");
     return failed;
 }

@@ -1,0 +1,247 @@
+#!/usr/bin/env python3
+"""Holds the C declarations against the library: include/rvghash.h as the kit's own clang parses it, the exported signatures of
+crates/rvghash/src, and the oracle's host/oracle/src/ffi.rs. They must agree on every function's name and answer, on its
+parameters' names, order and types, and on the running hash's fields. The header's refusal numbers must be README's table.
+
+    header.py [ARCHIVE]     compares; with librvghash.a, its global symbols too
+    header.py --self-test   puts wrong declarations into a copy of the header: each must be refused
+"""
+import glob
+import json
+import os
+import platform
+import re
+import subprocess
+import sys
+import tempfile
+
+HEADER = "include/rvghash.h"
+STRUCT = "struct rvghash_running"
+
+# The kit's clang brings no headers, and the comparison goes by the types' spelled names: so these serve.
+STDINT = "".join(f"typedef __UINT{bits}_TYPE__ uint{bits}_t; typedef __INT{bits}_TYPE__ int{bits}_t;\n"
+                 for bits in (8, 16, 32, 64))
+STDDEF = "typedef __SIZE_TYPE__ size_t;\n"
+
+NUMBER_TYPES = {"u8": "uint8_t", "u32": "uint32_t", "u64": "uint64_t", "usize": "size_t", "()": "void"}
+C_FIELDS = {"open_block": "open"}  # the fields that have another name in C: `open` is a word of the language antt
+
+
+def read(path):
+    with open(path, encoding="utf-8") as file:
+        return file.read()
+
+
+def kit_clang():
+    """The clang of the kit that `rt` belongs to."""
+    guide = subprocess.run(["rt", "doc"], capture_output=True, text=True, check=True).stdout.strip()
+    kit = os.path.dirname(os.path.dirname(guide))
+    return os.path.join(kit, "on", platform.machine(), "toolchain/bin/clang")
+
+
+def parsed(header):
+    """The header's top declarations, as clang's JSON has them."""
+    with tempfile.TemporaryDirectory() as folder:
+        for name, text in (("stdint.h", STDINT), ("stddef.h", STDDEF)):
+            with open(os.path.join(folder, name), "w", encoding="utf-8") as file:
+                file.write(text)
+        run = subprocess.run(
+            [kit_clang(), "-std=c99", "-Wall", "-Wextra", "-pedantic", "-Werror", "-nostdinc", "-isystem", folder, "-x", "c",
+             "-fsyntax-only", "-Xclang", "-ast-dump=json", header], capture_output=True, text=True)
+    if run.returncode != 0:
+        sys.exit(f"header: clang cannot parse {header}:\n{run.stderr}")
+    return json.loads(run.stdout)["inner"]
+
+
+def of_kind(node, kind):
+    return [inner for inner in node.get("inner", []) if inner["kind"] == kind]
+
+
+def named_types(node, kind):
+    """(name, type) of each inner declaration of this kind."""
+    return [(inner.get("name", ""), inner["type"]["qualType"]) for inner in of_kind(node, kind)]
+
+
+def constant(node):
+    """The value of an enumerator, as clang computed it."""
+    return next(inner["value"] for inner in of_kind(node, "ConstantExpr"))
+
+
+def of_header(header):
+    """What the header declares: functions, the struct's fields, the enum's numbers."""
+    functions, fields, numbers = {}, [], []
+    for node in parsed(header):
+        if node["kind"] == "FunctionDecl":
+            answer = node["type"]["qualType"].split(" (")[0]
+            functions[node["name"]] = (answer, named_types(node, "ParmVarDecl"))
+        elif node["kind"] == "RecordDecl" and f"struct {node.get('name')}" == STRUCT:
+            fields = named_types(node, "FieldDecl")
+        elif node["kind"] == "EnumDecl" and node.get("name") == "rvghash_number":
+            numbers = [(inner["name"], int(constant(inner))) for inner in of_kind(node, "EnumConstantDecl")]
+    return functions, fields, numbers
+
+
+def comma_parts(text):
+    return [part.strip() for part in text.split(",") if part.strip()]
+
+
+def rattle_parameter(name, kind):
+    """The C parameters that one parameter of an exported function becomes."""
+    if kind in ("&[u8]", "&mut [u8]"):
+        const = "" if "mut" in kind else "const "
+        return [(name, f"{const}uint8_t *"), (f"{name}_len", "size_t")]
+    if kind == "&mut Running":
+        return [(name, f"{STRUCT} *")]
+    if kind.startswith("&mut "):
+        return [(name, NUMBER_TYPES[kind[5:]] + " *")]
+    return [(name, NUMBER_TYPES[kind])]
+
+
+def of_library():
+    """What crates/rvghash exports, in C's types."""
+    functions = {}
+    for path in glob.glob("crates/rvghash/src/**/*.rt", recursive=True):
+        pattern = r'#\[no_mangle\]\s*pub extern "C" fn (\w+)\(([^)]*)\)(?: -> (\S+))?'
+        for name, parameters, answer in re.findall(pattern, read(path)):
+            pairs = [re.split(r":\s*", part) for part in comma_parts(parameters)]
+            functions[name] = (NUMBER_TYPES[answer or "()"], [c for pair in pairs for c in rattle_parameter(*pair)])
+    return functions
+
+
+def rust_type(kind):
+    if kind.startswith("*"):
+        access, to = kind[1:].split(" ")
+        return ("const " if access == "const" else "") + (STRUCT if to == "Running" else NUMBER_TYPES[to]) + " *"
+    return NUMBER_TYPES[kind]
+
+
+def of_oracle():
+    """What the oracle declares, in C's types."""
+    declarations = re.search(r'extern "C" \{(.*?)\n\}', read("host/oracle/src/ffi.rs"), re.S)[1]
+    functions = {}
+    for name, parameters, answer in re.findall(r"fn (\w+)\(([^)]*)\)(?: -> (\w+))?;", declarations):
+        pairs = [re.split(r":\s*", part) for part in comma_parts(parameters)]
+        functions[name] = (NUMBER_TYPES[answer or "()"], [(parameter, rust_type(kind)) for parameter, kind in pairs])
+    return functions
+
+
+def struct_fields(path):
+    """The fields of the #[repr(C)] struct Running in this file, in C's types."""
+    text = re.search(r"#\[repr\(C\)\]\s*pub struct Running \{(.*?)\}", read(path), re.S)
+    fields = []
+    for name, kind in re.findall(r"pub (\w+): ([^,\n]+),", text[1] if text else ""):
+        array = re.fullmatch(r"\[(\w+); (\d+)\]", kind)
+        name = C_FIELDS.get(name, name)
+        if kind == "Block":  # two 64-bit halves
+            fields += [(f"{name}_high", "uint64_t"), (f"{name}_low", "uint64_t")]
+        else:
+            fields.append((name, f"{NUMBER_TYPES[array[1]]}[{array[2]}]" if array else NUMBER_TYPES[kind]))
+    return fields
+
+
+def differences(what, ours, theirs):
+    """Compares two lists of (name, type), in words."""
+    for place in range(max(len(ours), len(theirs))):
+        here, there = (" ".join(reversed(side[place])) if place < len(side) else "nothing" for side in (ours, theirs))
+        if here != there:
+            yield f"{what}, place {place + 1}: the header has `{here}`, {{}} `{there}`"
+
+
+def function_differences(header, other):
+    for name in sorted(header.keys() | other.keys()):
+        if name not in header or name not in other:
+            yield f"{name}: {'not in the header, but in' if name not in header else 'in the header, but not in'} {{}}"
+            continue
+        (answer, parameters), (their_answer, their_parameters) = header[name], other[name]
+        if answer != their_answer:
+            yield f"{name}: the header's answer is `{answer}`, that of {{}} `{their_answer}`"
+        yield from differences(name, parameters, their_parameters)
+
+
+def table_of_numbers():
+    """README's rows: number, name, meaning."""
+    rows = re.findall(r"^\| (\d+) \| `(RVGHASH_\w+)` \| (.*?) \|$", read("README.md"), re.M)
+    return [(name, int(number), meaning) for number, name, meaning in rows]
+
+
+def number_differences(header, numbers):
+    table = table_of_numbers()
+    yield from differences("enum rvghash_number", [(n, str(v)) for n, v in numbers], [(n, str(v)) for n, v, _ in table])
+    for name, value, meaning in table:
+        if not re.search(rf"\b{name} = {value},?\s*/\* {re.escape(meaning)} \*/", read(header)):
+            yield f"{name}: the header's comment is not {{}}'s `{meaning}`"
+
+
+def complaints(header):
+    """Everything in which the header differs from the rest."""
+    functions, fields, numbers = of_header(header)
+    found = []
+    for where, theirs in (("crates/rvghash", of_library()), ("the oracle", of_oracle())):
+        found += [text.format(where) for text in function_differences(functions, theirs)]
+    for where, path in (("crates/ghash_state", "crates/ghash_state/src/lib.rt"), ("the oracle", "host/oracle/src/ffi.rs")):
+        found += [text.format(where) for text in differences(STRUCT, fields, struct_fields(path))]
+    found += [text.format("README") for text in number_differences(header, numbers)]
+    return found
+
+
+def symbol_complaints(archive, names):
+    """The archive's global symbols are the header's functions, no more and no less."""
+    listing = subprocess.run(["nm", "--defined-only", "--extern-only", archive], capture_output=True, text=True, check=True)
+    symbols = {line.split()[2] for line in listing.stdout.splitlines() if len(line.split()) == 3}
+    return [f"{name}: in {'the header' if name in names else archive} alone" for name in sorted(symbols ^ names)]
+
+
+# Wrong headers: what is wrong, and what its text has in place of what, each at its first place.
+WRONG = [
+    ("a scalar of 32 bits", {"uint64_t scalar": "uint32_t scalar"}),
+    ("a file length of 32 bits", {"size_t file_len": "uint32_t file_len"}),
+    ("a key length of 8 bits", {"size_t key_len": "uint8_t key_len"}),
+    ("a signed vl", {"uint32_t vl,": "int32_t vl,"}),
+    ("an answer of 8 bits", {"uint32_t rvghash_execute(": "uint8_t rvghash_execute("}),
+    ("a number 70", {"RVGHASH_KEY_OVERLAP = 7,": "RVGHASH_KEY_OVERLAP = 70,"}),
+    ("two numbers exchanged", {"SEW_NOT_32 = 4,": "SEW_NOT_32 = 5,", "NOT_MULTIPLE_OF_4 = 5,": "NOT_MULTIPLE_OF_4 = 4,"}),
+    ("a key that is not const", {"const uint8_t *key": "uint8_t *key"}),
+    ("SEW and LMUL exchanged", {"uint32_t sew, uint32_t lmul": "uint32_t lmul, uint32_t sew"}),
+    ("another meaning", {"/* a key or block not 16 bytes long */": "/* a key or block not 8 bytes long */"}),
+    ("a field of 64 bits", {"uint32_t a_count": "uint64_t a_count"}),
+    ("a function that is not there", {"void rvghash_running_new": "void rvghash_reset(void);\nvoid rvghash_running_new"}),
+]
+
+
+def changed(text, changes):
+    for old, new in changes.items():
+        assert old in text, old
+        text = text.replace(old, new, 1)
+    return text
+
+
+def self_test():
+    accepted = 0
+    with tempfile.TemporaryDirectory() as folder:
+        for what, changes in WRONG:
+            copy = os.path.join(folder, "rvghash.h")
+            with open(copy, "w", encoding="utf-8") as file:
+                file.write(changed(read(HEADER), changes))
+            found = complaints(copy)
+            accepted += not found
+            print(f"header: {what}: " + (f"refused: {found[0]}" if found else "ACCEPTED"))
+    print(f"header: {len(WRONG) - accepted} of {len(WRONG)} wrong headers are refused")
+    return accepted
+
+
+def main():
+    if sys.argv[1:] == ["--self-test"]:
+        sys.exit(1 if self_test() else 0)
+    found = complaints(HEADER)
+    functions, _, numbers = of_header(HEADER)
+    if len(sys.argv) > 1:
+        found += symbol_complaints(sys.argv[1], set(functions))
+    for text in found:
+        print("header:", text)
+    if found or not functions or not numbers:
+        sys.exit("header: the declarations differ")
+    print(f"header: {len(functions)} functions, the struct and {len(numbers)} numbers are the same in the header, the library, "
+          "the oracle and README")
+
+
+main()
