@@ -1,52 +1,162 @@
 #!/usr/bin/env python3
-"""Holds docs/STATEMENTS.md against the tree: every definition, theorem, function and must-fail edit that it names is there."""
+"""Holds docs/STATEMENTS.md against the tree: every name between backticks on it must be there.
+
+    statements.py               checks the page, and says how many must-fail edits it does not name
+    statements.py --self-test   puts names that are nowhere into a copy of the page: each must be found out
+
+A name is one of these: `crate/specs/File: a, b` or `crate/proofs/File: a .. b` (definitions, theorems), `crate::module::f` or
+`crate::module::*` (functions), `f` after such a name in the same cell or paragraph (of that crate, or of that file), `rvghash_f`
+(a C function), a crate, a must-fail edit after its crate and a colon, one outside tables without its crate, a path of the tree,
+`make target`, or one of the literals below.
+"""
+import glob
 import os
 import re
 import sys
 
-text = open("docs/STATEMENTS.md", encoding="utf-8").read()
-missing, found = [], 0
+PAGE = "docs/STATEMENTS.md"
+LITERALS = {"requires", "&mut", "out", "memset", "axioms=", "logic-built=trusted", "libraries-built=trusted", "rt ci", "rt version",
+            "librvghash.a", "struct rvghash_running", "NULL", "N passed, 0 failed"}
+MODIFIERS = r"(?:(?:unfoldable|abbrev|pub|private|data|record) )*"
 
 
-def check(ok, what):
-    global found
-    found += 1
-    if not ok:
-        missing.append(what)
+def read(path):
+    if not os.path.isfile(path):
+        return ""
+    with open(path, encoding="utf-8") as file:
+        return file.read()
 
 
-def declares(path, name):
-    pattern = r"^\s*((unfoldable|abbrev|pub|data|record) )*" + re.escape(name) + r"( |$)"
-    return os.path.exists(path) and re.search(pattern, open(path, encoding="utf-8").read(), re.M)
+CRATES = {os.path.basename(path) for path in glob.glob("crates/*")}
+EDITS = {(path.split("/")[1], os.path.basename(path)[:-5]) for path in glob.glob("crates/*/must-fail/*.edit")}
 
 
-# `crate/specs/File: a, b` and `crate/proofs/File: a .. c`
-for crate, part, file, names in re.findall(r"`(\w+)/(specs|proofs)/(\w+): ([^`]*)`", text):
-    for name in re.split(r"[,\s]+|\.\.", names.replace("\n", " ")):
-        if name:
-            check(declares(f"crates/{crate}/{part}/{file}.antt", name), f"{crate}/{part}/{file}: {name}")
+def declares(file, name):
+    """Whether an antt file has a declaration of this name: the first word of a line, with a colon after it."""
+    return re.search(rf"^\s*{MODIFIERS}{re.escape(name)}(?=\s)(?:[^=]|\n\s)*?\s:\s", read(file), re.M) is not None
 
-# `crate::module::function`
-for path in re.findall(r"`(\w+(?:::\w+)+)`", text):
-    crate, *modules, function = path.split("::")
-    file = f"crates/{crate}/src/{'/'.join(modules) if modules else 'lib'}.rt"
-    source = open(file, encoding="utf-8").read() if os.path.exists(file) else ""
-    check(re.search(r"\bfn " + function + r"\b", source), path)
 
-# the C functions
-sources = "".join(open(os.path.join("crates/rvghash/src", f), encoding="utf-8").read() for f in os.listdir("crates/rvghash/src"))
-for function in re.findall(r"`(rvghash_\w+)`", text):
-    check(re.search(r"\bfn " + function + r"\b", sources), function)
+def has_function(crate, modules, name):
+    """Whether a module has such a function or struct, or the crate has it anywhere where no module is given."""
+    files = [f"crates/{crate}/src/{'/'.join(modules)}.rt"] if modules else glob.glob(f"crates/{crate}/src/**/*.rt", recursive=True)
+    return any(re.search(rf"\b(?:fn|struct|enum|const) {re.escape(name)}\b", read(file)) for file in files)
 
-# must-fail edits, in the last column of a table: `crate: ` then names
-for row in text.split("\n"):
-    cells = [c.strip() for c in row.split(" | ")]
-    if row.startswith("|") and len(cells) == 3:
-        for crate, names in re.findall(r"(\w+): ((?:`\w+`(?:, )?)+)", cells[2]):
-            for name in re.findall(r"`(\w+)`", names):
-                check(os.path.exists(f"crates/{crate}/must-fail/{name}.edit"), f"{crate}/must-fail/{name}")
 
-for what in missing:
-    print("statements: not in the tree:", what)
-print(f"statements: {found - len(missing)} of {found} names of docs/STATEMENTS.md are in the tree")
-sys.exit(1 if missing or found < 100 else 0)
+class Reader:
+    """Reads one cell or paragraph, from its first name to its last."""
+
+    def __init__(self, edits_here):
+        self.edits_here = edits_here  # a cell of the column "guarded by"
+        self.crate_of_edits = None  # the crate whose edits are being listed
+        self.crate = None  # of the last function
+        self.file = None  # the last file of definitions
+        self.named_edits = set()
+
+    def lead(self, words):
+        """Takes the words in front of a name: `crate: ` begins a list of edits, and only a comma goes on with it."""
+        begins = re.search(r"(?:^|[\s(;])(\w+):\s*$", words)
+        if begins and (begins[1] in CRATES or self.edits_here):
+            self.crate_of_edits = begins[1]
+        elif not re.fullmatch(r",\s*(?:and\s+)?", words):
+            self.crate_of_edits = None
+
+    def wrong(self, name):
+        """What of this name is not in the tree; nothing if all is."""
+        if self.crate_of_edits:
+            self.named_edits.add((self.crate_of_edits, name))
+            return [] if (self.crate_of_edits, name) in EDITS else [f"the edit {name} of {self.crate_of_edits}"]
+        definitions = re.fullmatch(r"(\w+)/(specs|proofs)/(\w+):\s(.*)", name, re.S)
+        if definitions:
+            crate, part, file, names = definitions.groups()
+            self.file = f"crates/{crate}/{part}/{file}.antt"
+            return [f"{crate}/{part}/{file}: {n}" for n in re.split(r"[,\s]+", names)
+                    if n not in ("", "..") and not declares(self.file, n)]
+        if "::" in name:
+            self.crate, *modules, function = name.split("::")
+            if function == "*":
+                return [] if read(f"crates/{self.crate}/src/{'/'.join(modules)}.rt") else [name]
+            return [] if has_function(self.crate, modules or ["lib"], function) else [name]
+        return [] if self.bare(name) else [name]
+
+    def bare(self, name):
+        """Whether a name that stands alone is in the tree."""
+        if name in LITERALS or name in CRATES or os.path.exists(name.rstrip("/")):
+            return True
+        if name.startswith("rvghash_"):
+            return has_function("rvghash", [], name)
+        if name.startswith("make "):
+            return re.search(rf"^{re.escape(name[5:])}:", read("Makefile"), re.M) is not None
+        if self.crate and has_function(self.crate, [], name) or self.file and declares(self.file, name):
+            return True
+        edits = {edit for edit in EDITS if edit[1] == name}
+        self.named_edits |= edits
+        return bool(edits) and not self.edits_here
+
+
+def blocks(text):
+    """The cells of the tables, and the paragraphs; with each whether it lists edits."""
+    for block in re.split(r"\n\s*\n|\n(?=- )", text):
+        rows = [line for line in block.split("\n") if line.startswith("|")]
+        for row in rows:
+            cells = re.split(r"(?<!\\)\|", row)[1:-1]
+            for place, cell in enumerate(cells):
+                yield cell, len(cells) == 3 and place == 2
+        if not rows:
+            yield block, False
+
+
+def check(text):
+    """How many names there are, those that are nowhere, and the edits that are named."""
+    count, missing, edits = 0, [], set()
+    for block, edits_here in blocks(text):
+        reader, end = Reader(edits_here), 0
+        for match in re.finditer(r"`([^`]+)`", block):
+            reader.lead(block[end:match.start()])
+            end = match.end()
+            count += 1
+            missing += reader.wrong(match[1])
+        edits |= reader.named_edits
+    return count, missing, edits
+
+
+# Names that are nowhere, and a line of a page that has each: in a paragraph or in a row of a table.
+NOWHERE = [
+    ("half_ofx", "| a promise | `vector_element::clmul::clmul64`, `half_ofx` | the check itself |"),
+    ("carry_of_nothing_at_all", "Each with a must-fail edit of its constant: `carry_of_nothing_at_all`."),
+    ("no_such_thing", "A block is a number (`no_such_thing`)."),
+    ("element::elephant::*", "| a promise | `element::elephant::*` | the check itself |"),
+    ("vector_word::decoder", "The words are decoded by `vector_word::decoder`."),
+    ("gf128/specs/Field: produkt", "| a promise | `gf128/specs/Field: product, produkt` | the check itself |"),
+    ("the edit no_such_edit of rvghash", "| a promise | `rvghash_execute` | rvghash: `no_such_edit` |"),
+    ("the edit new_is_in_phase_1 of rvgash", "| a promise | `rvghash_execute` | rvgash: `new_is_in_phase_1` |"),
+    ("new_is_in_phase_1", "| a promise | `rvghash_execute` | `new_is_in_phase_1` |"),
+    ("rvghash_no_such_function", "The file is what `rvghash_no_such_function` leaves."),
+    ("host/no_such_file", "It is tried by `host/no_such_file`."),
+]
+
+
+def self_test(text):
+    accepted = 0
+    for name, line in NOWHERE:
+        found = name in check(f"{text}\n\n{line}\n")[1]
+        accepted += not found
+        print(f"statements: {'found out' if found else 'ACCEPTED'}: {line}")
+    return accepted
+
+
+def main():
+    text = read(PAGE)
+    if sys.argv[1:] == ["--self-test"]:
+        sys.exit(1 if self_test(text) else 0)
+    count, missing, edits = check(text)
+    for what in missing:
+        print("statements: not in the tree:", what)
+    print(f"statements: {count} names on {PAGE}, {len(missing)} of them not in the tree")
+    unnamed = EDITS - edits
+    print(f"statements: {len(EDITS) - len(unnamed)} of {len(EDITS)} must-fail edits are named there, {len(unnamed)} are not")
+    if "--unnamed" in sys.argv:
+        print("".join(f"  {crate}: {edit}\n" for crate, edit in sorted(unnamed)), end="")
+    sys.exit(1 if missing or count < 100 else 0)
+
+
+main()
