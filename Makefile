@@ -1,26 +1,64 @@
-# make demo: proves what the library needs, builds it and the example monitor, and runs that on a sample.
-# make test: the whole gate. make bench: the benchmark.
+# The targets are listed by a bare `make`. README says which to use when.
 SHELL := /bin/bash
-.PHONY: demo test bench tools
+.DEFAULT_GOAL := help
+.PHONY: help setup tools demo test archive install uninstall bench derive integration clean
 lib := target/staticlib/librvghash.a
+version := $(shell cat VERSION)
+PREFIX ?= /usr/local
+DESTDIR ?=
 
-tools:
-	@command -v rt >/dev/null || { echo "missing: rt, the Rattle toolchain's command, is not on the PATH"; exit 2; }
-	@command -v gcc >/dev/null || { echo "missing: gcc"; exit 2; }
-	@command -v g++ >/dev/null || { echo "missing: g++"; exit 2; }
-	@command -v cargo >/dev/null || { echo "missing: cargo, which builds the independent oracle"; exit 2; }
+help: ## lists the targets
+	@awk -F ':.*## ' '/^[a-z]+:.*## / { printf "make %-12s %s\n", $$1, $$2 }' Makefile
 
-demo: tools
+setup: ## installs what demo and test need from Debian's packages (as root; else prints the line that does)
+	@host/setup install demo test
+
+tools: ## says what is missing here for each target, and whether the kit is the pinned one
+	@-host/setup check derive && echo "make derive: all that it needs is here"
+	@-host/setup check bench && echo "make bench: all that it needs is here"
+	@host/setup check demo test && echo "make demo, make test: all that they need is here"
+
+demo: ## proves what the library needs, builds it and the example monitor, and runs that on a sample
+	@host/setup check demo
 	@echo "demo: proving the library's crates (some minutes from nothing)"
-	rt staticlib rvghash
+	@$(MAKE) --no-print-directory archive
 	@mkdir -p target/host
 	gcc -std=c99 -O2 -Wall -Wextra -pedantic -Iinclude examples/monitor.c $(lib) -o target/host/monitor
 	target/host/monitor examples/traps.txt
 
-# The gate. Its last line is rt's own count.
-test: tools
-	@set -o pipefail; line=$$(rt ci | tee /dev/stderr | tail -n 1) && rt staticlib rvghash && host/check && echo "$$line"
+# The log is read again for its last line, which is rt's own count.
+test: ## the whole gate: proofs from nothing, edits that must be refused, then host/check
+	@host/setup check test
+	@set -o pipefail; log=$$(mktemp); trap 'rm -f "$$log"' EXIT; \
+	rt ci | tee "$$log" && rt staticlib rvghash && host/check && tail -n 1 "$$log"
 
-bench: tools
+archive: $(lib) ## proves the library and writes target/staticlib/librvghash.a
+
+$(lib): crates.txt $(shell find crates -name '*.rt' -o -name '*.antt')
 	rt staticlib rvghash
+
+install: $(lib) ## installs archive, header and pkg-config file under PREFIX (/usr/local), below DESTDIR if given
+	install -d "$(DESTDIR)$(PREFIX)/lib/pkgconfig" "$(DESTDIR)$(PREFIX)/include"
+	install -m 644 $(lib) "$(DESTDIR)$(PREFIX)/lib/librvghash.a"
+	install -m 644 include/rvghash.h "$(DESTDIR)$(PREFIX)/include/rvghash.h"
+	sed -e 's|@PREFIX@|$(PREFIX)|' -e 's|@VERSION@|$(version)|' rvghash.pc.in >"$(DESTDIR)$(PREFIX)/lib/pkgconfig/rvghash.pc"
+
+uninstall: ## removes what install wrote
+	rm -f "$(DESTDIR)$(PREFIX)/lib/librvghash.a" "$(DESTDIR)$(PREFIX)/include/rvghash.h" \
+		"$(DESTDIR)$(PREFIX)/lib/pkgconfig/rvghash.pc"
+
+bench: $(lib) ## measures the library beside its peers, and writes docs/BENCHMARKS.md
+	@host/setup check bench
 	host/bench/run $(lib)
+
+derive: ## derives the known answers' data again, and compares it with the recorded checksums
+	@host/setup check derive
+	/usr/bin/python3 host/derive/vectors.py
+	/usr/bin/python3 host/derive/limits.py
+	sha256sum --check host/derive/SHA256SUMS
+
+integration: $(lib) ## measures the archive, and writes docs/INTEGRATION.md
+	host/integration --write $(lib)
+
+clean: ## removes all that was built
+	rm -rf target
