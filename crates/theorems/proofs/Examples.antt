@@ -3,21 +3,19 @@
 use mathlib.Core.Path.{_≡_, refl, sym, ap, ap₂, _∙_}
 use mathlib.Core.Bool.{Bool, true, false, cond, not, _&&_, _||_}
 use mathlib.Core.List.{List, [], _∷_, _++_}
-use Prim.Native.Nat.{ℕ, zero, suc, _+_, _-_, _/_}
-use lib.Bits.{bitXor}
+use Prim.Native.Nat.{ℕ, _+_, _-_, _/_}
 use lib.Dec.{T, eqb, ltb, eqb→eq}
 use lib.ListN.{length, getD}
-use Rattle.gf128.specs.Bytes.{beAt, beBytes, blockAt, putBlock}
+use Rattle.gf128.specs.Bytes.{beAt, beBytes, putBlock}
 use Rattle.gf128.specs.Degree.{highest, degreeOf, degreeRefusal}
 use Rattle.gf128.specs.Field.{coeffOf, product}
 use Rattle.gf128.specs.Hash.{limit}
-use Rattle.gf128.specs.Running.{State, malformed, finishRefusal}
+use Rattle.gf128.specs.Running.{State, malformed}
 use Rattle.gf128.proofs.Computed.{quickSteps, quickProduct, quick-product}
 use Rattle.gf128.proofs.Places.{and-left, and-right}
 use Rattle.vector_registers.specs.declared.settings.Settings.{Settings}
 use Rattle.vector_registers.specs.Group.{groupRefusal}
 use Rattle.vector_word.specs.declared.Fields.{Fields}
-use Rattle.vector_word.specs.declared.Kind.{Kind}
 use Rattle.vector_word.specs.declared.Kind.the-variants.{VclmulVv, VclmulVx, VclmulhVv, VclmulhVx, VghshVv, VghshVs, VgmulVv, VgmulVs}
 use Rattle.vector_word.specs.declared.Word.{Word}
 use Rattle.vector_word.specs.declared.Word.the-variants.{Known, Unknown}

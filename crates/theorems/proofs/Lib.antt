@@ -8,3 +8,4 @@ pub mod Groups
 pub mod Marked
 pub mod Pseudocode
 pub mod Registers
+pub mod Witnesses

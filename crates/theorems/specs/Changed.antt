@@ -1,4 +1,4 @@
--- Demand 3's second half, in document 01's words: one changed block always shows in the hash.
+-- Demand 3's second half, in document 01's words: one changed block always shows in the hash, and in the bytes that the C functions write.
 -- `hashBlock` is the block that ghash_plain and ghash_fast both promise to return, so each message may take either path.
 -- Assumes nothing.
 use Prim.Native.Nat.{ℕ, _<_, _≤_}
@@ -8,7 +8,7 @@ use mathlib.Core.List.{List, _++_}
 use lib.ListN.{length, getD}
 use Rattle.gf128.specs.Bytes.{blockAt}
 use Rattle.gf128.specs.Differ.{DifferOnce}
-use Rattle.gf128.specs.Entries.{hashBlock}
+use Rattle.gf128.specs.Entries.{hashBlock, hashOut, outBytes}
 use Rattle.gf128.specs.Hash.{blocksOf, limit}
 use Rattle.gf128.specs.Pieces.{joined, runOf}
 
@@ -48,3 +48,16 @@ abbrev pub OneChangedBlockShowsInParts : Type 0
 OneChangedBlockShowsInParts =
     (key : List ℕ) (ps qs ps′ qs′ : List (List ℕ)) → NonzeroKey key → OneBlockChanged (joined ps) (joined qs) (joined ps′) (joined qs′)
     → runOf key ps qs .block ≢ runOf key ps′ qs′ .block
+
+-- the bytes of a message's hash in an `out` of 16 bytes: the function for a whole A and C wrote them, or the one that finishes a run; the
+-- plain and the fast form of each write the same
+pub data Written (key a c bytes : List ℕ) : Type 0 where
+  whole : (out : List ℕ) → length out ≡ 16 → bytes ≡ hashOut key a c out → Written key a c bytes
+  parts : (ps qs : List (List ℕ)) (out : List ℕ) → joined ps ≡ a → joined qs ≡ c → length out ≡ 16 → bytes ≡ outBytes out (runOf key ps qs .block)
+      → Written key a c bytes
+
+-- the two hashes' bytes differ, whichever function wrote each
+abbrev pub OneChangedBlockShowsInBytes : Type 0
+OneChangedBlockShowsInBytes =
+    (key a c a′ c′ bytes bytes′ : List ℕ) → NonzeroKey key → OneBlockChanged a c a′ c′ → Written key a c bytes → Written key a′ c′ bytes′
+    → bytes ≢ bytes′

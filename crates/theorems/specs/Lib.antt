@@ -2,3 +2,4 @@ pub mod Changed
 pub mod Examples
 pub mod Execution
 pub mod Marked
+pub mod Witnesses
