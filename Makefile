@@ -1,7 +1,7 @@
 # The targets are listed by a bare `make`. README says which to use when.
 SHELL := /bin/bash
 .DEFAULT_GOAL := help
-.PHONY: help setup tools demo test archive install uninstall bench derive integration clean
+.PHONY: help setup tools demo test archive install uninstall bench derive integration riscv clean
 lib := target/staticlib/librvghash.a
 version := $(shell cat VERSION)
 PREFIX ?= /usr/local
@@ -59,6 +59,10 @@ derive: ## derives the known answers' data again, and compares it with the recor
 
 integration: $(lib) ## measures the archive, and writes docs/INTEGRATION.md
 	host/integration --write $(lib)
+
+riscv: $(lib) ## writes the box's libraries, target/riscv64/rv64gc/librvghash.a and target/riscv64/rv64imac/librvghash.a
+	@host/setup check riscv
+	host/riscv/build
 
 clean: ## removes all that was built
 	rm -rf target

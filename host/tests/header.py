@@ -244,4 +244,5 @@ def main():
           "the oracle and README")
 
 
-main()
+if __name__ == "__main__":
+    main()
