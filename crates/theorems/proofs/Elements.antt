@@ -87,7 +87,7 @@ module _
 
     result-same : (i : ℕ) (g : List ℕ) → i < s .vl → Except file g (place (s .vstart)) (place i) → carrylessResult which m f s g i ≡ carrylessResult which m f s file i
     unfolding carrylessResult
-    result-same i g h x = ap₂ (λ (a b : ℕ). halfOf which (s .sew) (clmul64 a b)) (source (f .vs2) i g vs2-aligned h x) (multiplier-same i g h x)
+    result-same i g h x = ap₂ (λ (a b : ℕ). halfOf which (s .sew) (clmul64 a b)) (multiplier-same i g h x) (source (f .vs2) i g vs2-aligned h x)
 
     -- so are the mask bits, which are not in vd's group
     active-same : (i : ℕ) (g : List ℕ) → i < s .vl → Except file g (place (s .vstart)) (place i) → active f g i ≡ active f file i
@@ -104,7 +104,7 @@ module _
     unfolding carrylessResult
     result-lt i =
         subst (λ (n : ℕ). carrylessResult which m f s file i < n) (ap (λ (k : ℕ). 2 ^ k) (ready .sew-bytes) ∙ sym (bytes-bits (s .sew / 8)))
-        (half-lt which (s .sew) (clmul64 (element s file (f .vs2) i) (multiplierOf m f s file i)))
+        (half-lt which (s .sew) (clmul64 (multiplierOf m f s file i) (element s file (f .vs2) i)))
 
     step : (i : ℕ) (g : List ℕ) → s .vstart ≤ i → i < s .vl → Except file g (place (s .vstart)) (place i)
         → Does g (carrylessStep which m f s i g) (place i) (s .sew / 8) (active f file i) (λ h. element s h (f .vd) i) (carrylessResult which m f s file i)

@@ -25,14 +25,14 @@ use Rattle.vector_element.specs.declared.clmul.Half.{Half}
 use Rattle.vector_element.specs.declared.clmul.Half.the-variants.{Low, High}
 use Rattle.vector_clmul.specs.declared.Multiplier.{Multiplier}
 use Rattle.vector_clmul.specs.declared.Multiplier.the-variants.{Vs1, Scalar}
-use Rattle.vector_ghash.specs.declared.Multiplicand.the-variants.{YXorX, YAlone}
+use Rattle.vector_ghash.specs.declared.GhashMultiplier.the-variants.{YXorX, YAlone}
 use Rattle.vector_element.specs.Element.{elementAt}
-use Rattle.vector_clmul.specs.Steps.{steps}
+use Rattle.vector_element.specs.Steps.{steps}
 use Rattle.vector_clmul.specs.Carryless.{active, element, scalarOf, carrylessResult, carrylessStep, carryless}
 use Rattle.vector_ghash.specs.GhashWords.{group, vvStep, vsStep, ghashVv, ghashVs}
 use Rattle.vector_execute.specs.Execute.{doneKnown, done, executed}
 use Rattle.vector_execute.proofs.Admitted.{Admitted, admitted-as, performed}
-use Rattle.vector_clmul.proofs.Steps.{none-left}
+use Rattle.vector_element.proofs.Steps.{none-left}
 use Rattle.theorems.specs.Execution.{firstUnit, pastUnit, activeUnit, unitBytes, unitPlace, unitOf, resultOf, Within, Done, WordDone}
 use Rattle.theorems.proofs.Elements.{AlignedMultiplier, elements-done}
 use Rattle.theorems.proofs.Groups.{vv-done, vs-done}

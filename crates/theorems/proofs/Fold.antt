@@ -9,7 +9,7 @@ use Prim.Native.Nat.{ℕ, zero, suc, _+_, _-_, _<_, _≤_}
 use native.Mathlib.Nat.{eq-or-lt-of-le, le-refl, le-trans, le-add-right}
 use native.Mathlib.Omega.{arith}
 use lib.ListN.{length, getD}
-use Rattle.vector_clmul.specs.Steps.{steps}
+use Rattle.vector_element.specs.Steps.{steps}
 use Rattle.theorems.specs.Execution.{Within, Done}
 
 -- g is the file, except at bytes low to high - 1

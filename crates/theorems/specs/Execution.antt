@@ -42,10 +42,10 @@ unitOf k f s i file = cond (isGhash k) (group s file (f .vd) i) (element s file 
 
 -- the result of unit i, from a file
 abbrev pub resultOf : Kind → Fields → Settings → ℕ → List ℕ → ℕ → ℕ
-resultOf VclmulVv f s scalar file i = lowHalf (s .sew) (clmul64 (element s file (f .vs2) i) (element s file (f .vs1) i))
-resultOf VclmulVx f s scalar file i = lowHalf (s .sew) (clmul64 (element s file (f .vs2) i) (scalarOf f s scalar))
-resultOf VclmulhVv f s scalar file i = highHalf (s .sew) (clmul64 (element s file (f .vs2) i) (element s file (f .vs1) i))
-resultOf VclmulhVx f s scalar file i = highHalf (s .sew) (clmul64 (element s file (f .vs2) i) (scalarOf f s scalar))
+resultOf VclmulVv f s scalar file i = lowHalf (s .sew) (clmul64 (element s file (f .vs1) i) (element s file (f .vs2) i))
+resultOf VclmulVx f s scalar file i = lowHalf (s .sew) (clmul64 (scalarOf f s scalar) (element s file (f .vs2) i))
+resultOf VclmulhVv f s scalar file i = highHalf (s .sew) (clmul64 (element s file (f .vs1) i) (element s file (f .vs2) i))
+resultOf VclmulhVx f s scalar file i = highHalf (s .sew) (clmul64 (scalarOf f s scalar) (element s file (f .vs2) i))
 resultOf VghshVv f s scalar file i = product (bitXor (group s file (f .vd) i) (group s file (f .vs1) i)) (group s file (f .vs2) i)
 resultOf VghshVs f s scalar file i = product (bitXor (group s file (f .vd) i) (group s file (f .vs1) i)) (group s file (f .vs2) 0)
 resultOf VgmulVv f s scalar file i = product (group s file (f .vd) i) (group s file (f .vs2) i)

@@ -11,7 +11,7 @@ use Rattle.vector_registers.specs.declared.settings.Settings.{Settings}
 use Rattle.vector_word.specs.declared.Fields.{Fields}
 use Rattle.vector_element.specs.Clmul.{clmul64, halfOf}
 use Rattle.vector_element.specs.Element.{readLe, writeLe, elementAt, maskBit}
-use Rattle.vector_clmul.specs.Steps.{steps}
+use Rattle.vector_element.specs.Steps.{steps}
 
 -- an element is active where vm is 1 or its mask bit is 1
 abbrev pub active : Fields → List ℕ → ℕ → Bool
@@ -33,7 +33,7 @@ multiplierOf (Scalar x) f s file i = x
 -- element i's result
 unfoldable pub carrylessResult : Half → Multiplier → Fields → Settings → List ℕ → ℕ → ℕ
 carrylessResult half m f s file i =
-    halfOf half (s .sew) (clmul64 (element s file (f .vs2) i) (multiplierOf m f s file i))
+    halfOf half (s .sew) (clmul64 (multiplierOf m f s file i) (element s file (f .vs2) i))
 
 unfoldable pub carrylessStep : Half → Multiplier → Fields → Settings → ℕ → List ℕ → List ℕ
 carrylessStep half m f s i file =

@@ -1,2 +1,1 @@
 pub mod Carryless
-pub mod Steps

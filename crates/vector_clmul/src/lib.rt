@@ -56,7 +56,7 @@ fn carryless_result(which: Half, m: Multiplier, f: Fields, s: Settings, i: u32, 
     requires { ⌜ sewAllowed (s .sew) ≡ true ⌝ }
     ensures { λ r. ⌜ r ≡ carrylessResult which m f s (now (file .entry)) i ⌝ }
 {
-    let p = clmul64(element(s, f.vs2, i, file), multiplier_of(m, f, s, i, file));
+    let p = clmul64(multiplier_of(m, f, s, i, file), element(s, f.vs2, i, file));
     half_of(which, s.sew as u64, p)
 }
 

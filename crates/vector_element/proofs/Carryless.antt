@@ -1,12 +1,13 @@
--- Laws of the carry-less product, each over the width.
+-- The loop of the carry-less product over two numbers of 64 bits (`turn`), and the halves that it leaves, each law over the width.
 -- Assumes nothing.
 use mathlib.Core.Path.{_≡_, sym, ap, ap₂, _∙_}
 use Prim.Native.Nat.{ℕ, _+_, _-_, _*_, _/_, _%_, _^_, _<_}
-use native.Mathlib.Nat.{mul-le-mul-right, one-mul, le-of-suc-le-suc, le-trans, lt-of-le-of-lt, le-of-eq, mod-lt, zero-lt-suc, mul-add, mul-assoc, mul-div-mul-right, mul-add-div-right, mul-add-mod-self-right}
+use native.Mathlib.Nat.{mod-lt, zero-lt-suc, mul-add, mul-assoc, mul-div-mul-right, mul-add-div-right, mul-add-mod-self-right}
 use native.Mathlib.Numerals.{add-one}
 use native.Mathlib.Omega.{arith}
 use lib.Bits.{bitXor, xor-block}
 use lib.Pow.{pow-add, pow-pos, split, shr-shr, shl-shr, field}
+use Rattle.gf128.proofs.Places.{digit-lt}
 use Rattle.vector_element.specs.Clmul.{clmul}
 
 -- bit n of b
@@ -15,10 +16,6 @@ bitOf b n = b / 2 ^ n % 2
 
 pub bit-lt : (b n : ℕ) → bitOf b n < 2
 bit-lt b n = mod-lt (b / 2 ^ n) (zero-lt-suc 1)
-
--- a number taken by a bit is no larger
-pub scale-lt : {m : ℕ} (d x : ℕ) → d < 2 → x < m → d * x < m
-scale-lt d x hd hx = lt-of-le-of-lt (le-trans (mul-le-mul-right x (le-of-suc-le-suc hd)) (le-of-eq (one-mul x))) hx
 
 -- ---- the loop over two halves
 
@@ -38,7 +35,7 @@ pub turn : (a b i high low : ℕ) → i < 64 → low < 2 ^ 64 → high * 2 ^ 64 
     → bitXor high (bitOf b i * (a / 2 / 2 ^ (63 - i))) * 2 ^ 64 + bitXor low (bitOf b i * (a * 2 ^ i % 2 ^ 64)) ≡ clmul (i + 1) a b
 unfolding clmul
 turn a b i high low hi hl e =
-    sym (xor-block 64 high (bitOf b i * up) low (bitOf b i * rest) hl (scale-lt (bitOf b i) rest (bit-lt b i) (mod-lt (a * 2 ^ i) (pow-pos 64))))
+    sym (xor-block 64 high (bitOf b i * up) low (bitOf b i * rest) hl (digit-lt (bitOf b i) rest (2 ^ 64) (bit-lt b i) (mod-lt (a * 2 ^ i) (pow-pos 64))))
     ∙ ap₂ bitXor e
     (ap (λ (x : ℕ). x + bitOf b i * rest) (mul-assoc (bitOf b i) up (2 ^ 64)) ∙ sym (mul-add (bitOf b i) (up * 2 ^ 64) rest) ∙ ap (λ (x : ℕ). bitOf b i * x) (moved a i hi))
     ∙ ap (λ (n : ℕ). clmul n a b) (sym (add-one i))

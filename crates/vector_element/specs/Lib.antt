@@ -1,2 +1,3 @@
 pub mod Clmul
 pub mod Element
+pub mod Steps

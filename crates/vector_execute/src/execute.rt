@@ -9,7 +9,7 @@ use vector_clmul::Multiplier;
 use vector_clmul::carryless;
 use vector_clmul::scalar_of;
 use vector_element::clmul::Half;
-use vector_ghash::Multiplicand;
+use vector_ghash::GhashMultiplier;
 use vector_ghash::ghash_vs;
 use vector_ghash::ghash_vv;
 use vector_refusal::refusal;
@@ -41,10 +41,10 @@ fn run_known(k: Kind, f: Fields, s: Settings, scalar: u64, file: &mut [u8])
             let x = scalar_of(f, s, scalar);
             carryless(Half::High, Multiplier::Scalar(x), f, s, file)
         }
-        Kind::VghshVv => ghash_vv(Multiplicand::YXorX, f, s, file),
-        Kind::VghshVs => ghash_vs(Multiplicand::YXorX, f, s, file),
-        Kind::VgmulVv => ghash_vv(Multiplicand::YAlone, f, s, file),
-        Kind::VgmulVs => ghash_vs(Multiplicand::YAlone, f, s, file),
+        Kind::VghshVv => ghash_vv(GhashMultiplier::YXorX, f, s, file),
+        Kind::VghshVs => ghash_vs(GhashMultiplier::YXorX, f, s, file),
+        Kind::VgmulVv => ghash_vv(GhashMultiplier::YAlone, f, s, file),
+        Kind::VgmulVs => ghash_vs(GhashMultiplier::YAlone, f, s, file),
     }
 }
 

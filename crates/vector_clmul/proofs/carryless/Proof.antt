@@ -5,9 +5,9 @@ use Prim.Native.Nat.{_-_}
 use mathlib.Core.Path.{_≡_, refl, _∙_}
 use native.Mathlib.Omega.{arith}
 use lib.ListN.{length}
-use Rattle.vector_clmul.specs.Steps.{steps}
+use Rattle.vector_element.specs.Steps.{steps}
 use Rattle.vector_clmul.specs.Carryless.{carryless, carrylessStep}
-use Rattle.vector_clmul.proofs.Steps.{turn, none-left}
+use Rattle.vector_element.proofs.Steps.{turn, none-left}
 use Rattle.vector_clmul.proofs.carryless.Statement.{statement}
 use Rattle.vector_clmul.proofs.carryless.Tie as tie
 

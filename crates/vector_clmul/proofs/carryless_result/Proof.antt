@@ -7,11 +7,11 @@ use borrow.Author.Needs.{needs}
 use Rattle.vector_clmul.proofs.carryless_result.Statement.{statement}
 use Rattle.vector_clmul.proofs.carryless_result.Tie as tie
 
-element-requires : tie.Need-element-requires
-element-requires c κs = search needs
-
 multiplier-of-requires : tie.Need-multiplier-of-requires
 multiplier-of-requires c κs = search needs
+
+element-requires : tie.Need-element-requires
+element-requires c κs = search needs
 
 clmul64-requires : tie.Need-clmul64-requires
 clmul64-requires c κs = search needs
@@ -28,14 +28,14 @@ returns c =
     let s = c .before .before .before .before .before .before in
     c .half-of .ensures
     ∙ ap (halfOf (s .args .which) (s .args .s .sew))
-    (c .before .before .clmul64 .ensures ∙ ap₂ clmul64 (c .before .before .before .before .element .ensures) (c .before .before .before .multiplier-of .ensures))
+    (c .before .before .clmul64 .ensures ∙ ap₂ clmul64 (c .before .before .before .before .multiplier-of .ensures) (c .before .before .before .element .ensures))
 
 pub carryless-result-spec : {M : Type 1} → statement M
 carryless-result-spec =
     tie.close
     (tie.spec
-    element-requires
     multiplier-of-requires
+    element-requires
     clmul64-requires
     cast-half-of
     half-of-requires

@@ -6,9 +6,9 @@ use native.Mathlib.Omega.{arith}
 use borrow.Author.Needs.{needs}
 use lib.ListN.{length}
 use Rattle.ghash_fast.specs.Table.{TableOf}
-use Rattle.vector_clmul.specs.Steps.{steps}
+use Rattle.vector_element.specs.Steps.{steps}
 use Rattle.vector_ghash.specs.GhashWords.{group, ghashVs, vsStep}
-use Rattle.vector_clmul.proofs.Steps.{turn, none-left}
+use Rattle.vector_element.proofs.Steps.{turn, none-left}
 use Rattle.vector_ghash.proofs.ghash_vs.Statement.{statement}
 use Rattle.vector_ghash.proofs.ghash_vs.Tie as tie
 
@@ -21,15 +21,15 @@ Inv-loop m f s file₀ t to i₀ file i =
 abbrev μ-loop : tie.MeasureT-loop
 μ-loop m f s file₀ t to i₀ file i = to - i
 
-group-requires : tie.Need-group-requires Inv-loop μ-loop
-group-requires c κs = search needs
+key-in-requires : tie.Need-key-in-requires Inv-loop μ-loop
+key-in-requires c κs = search needs
 
 fill-tables-requires : tie.Need-fill-tables-requires Inv-loop μ-loop
 fill-tables-requires c κs = search needs
 
 loop-holds : tie.Need-loop-holds Inv-loop μ-loop
 loop-holds c =
-    (refl, subst (λ (h : ℕ). TableOf h (c .before .before .fill-tables .last .0)) (c .before .before .before .before .group .ensures) (c .before .before .fill-tables .ensures), refl)
+    (refl, subst (λ (h : ℕ). TableOf h (c .before .before .fill-tables .last .0)) (c .before .before .before .before .key-in .ensures) (c .before .before .fill-tables .ensures), refl)
 
 vs-step-requires : tie.Need-vs-step-requires Inv-loop μ-loop
 vs-step-requires c κs = search needs
@@ -65,4 +65,4 @@ returns c =
 pub ghash-vs-spec : {M : Type 1} → statement M
 ghash-vs-spec =
     tie.close
-    (tie.spec Inv-loop μ-loop group-requires fill-tables-requires loop-holds vs-step-requires add-i loop-less loop-again same-length returns)
+    (tie.spec Inv-loop μ-loop key-in-requires fill-tables-requires loop-holds vs-step-requires add-i loop-less loop-again same-length returns)

@@ -5,9 +5,9 @@ use mathlib.Core.Path.{_≡_, refl, _∙_}
 use native.Mathlib.Omega.{arith}
 use borrow.Author.Needs.{needs}
 use lib.ListN.{length}
-use Rattle.vector_clmul.specs.Steps.{steps}
+use Rattle.vector_element.specs.Steps.{steps}
 use Rattle.vector_ghash.specs.GhashWords.{ghashVv, vvStep}
-use Rattle.vector_clmul.proofs.Steps.{turn, none-left}
+use Rattle.vector_element.proofs.Steps.{turn, none-left}
 use Rattle.vector_ghash.proofs.ghash_vv.Statement.{statement}
 use Rattle.vector_ghash.proofs.ghash_vv.Tie as tie
 

@@ -8,8 +8,8 @@ use borrow.Author.Needs.{needs}
 use Rattle.vector_ghash.proofs.vs_step.Statement.{statement}
 use Rattle.vector_ghash.proofs.vs_step.Tie as tie
 
-multiplicand-of-requires : tie.Need-multiplicand-of-requires
-multiplicand-of-requires c κs = search needs
+multiplier-of-requires : tie.Need-multiplier-of-requires
+multiplier-of-requires c κs = search needs
 
 product-fast-requires : tie.Need-product-fast-requires
 product-fast-requires c κs = search needs
@@ -29,13 +29,13 @@ returns c h table =
     let s = c .before .before .before .before .before .before .before .before .before in
     c .before .before .put-block .ensures
     ∙ ap₂ (putBlock (s .args .file .now)) (c .before .before .before .block-place .ensures)
-    (c .before .before .before .before .before .product-fast .ensures h table ∙ ap (λ (u : ℕ). product u h) (c .before .before .before .before .before .before .multiplicand-of .ensures))
+    (c .before .before .before .before .before .product-fast .ensures h table ∙ ap (λ (u : ℕ). product u h) (c .before .before .before .before .before .before .multiplier-of .ensures))
 
 pub vs-step-spec : {M : Type 1} → statement M
 vs-step-spec =
     tie.close
     (tie.spec
-    multiplicand-of-requires
+    multiplier-of-requires
     product-fast-requires
     block-place-requires
     put-block-requires

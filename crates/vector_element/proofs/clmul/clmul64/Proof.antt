@@ -7,7 +7,8 @@ use native.Mathlib.Omega.{arith}
 use lib.Bits.{xor-lt}
 use lib.Pow.{pow-pos, shr-le}
 use Rattle.vector_element.specs.Clmul.{clmul, clmul64}
-use Rattle.vector_element.proofs.Carryless.{bitOf, bit-lt, scale-lt, turn}
+use Rattle.gf128.proofs.Places.{digit-lt}
+use Rattle.vector_element.proofs.Carryless.{bitOf, bit-lt, turn}
 use Rattle.vector_element.proofs.clmul.clmul64.Statement.{statement}
 use Rattle.vector_element.proofs.clmul.clmul64.Tie as tie
 
@@ -36,7 +37,7 @@ mul-high c =
     let i = c .before .loop .i in
     let a = c .before .before .args .a in
     record {
-      fits = scale-lt (bitOf (c .before .before .args .b) i) (a / 2 / 2 ^ (63 - i)) (bit-lt (c .before .before .args .b) i)
+      fits = digit-lt (bitOf (c .before .before .args .b) i) (a / 2 / 2 ^ (63 - i)) (2 ^ 64) (bit-lt (c .before .before .args .b) i)
           (lt-of-le-of-lt (le-trans (shr-le (a / 2) (63 - i)) (shr-le a 1)) (c .before .before .fits .a .fits));
     }
 
@@ -48,7 +49,7 @@ mul-low c =
     let i = c .before .loop .i in
     let a = c .before .before .args .a in
     record {
-      fits = scale-lt (bitOf (c .before .before .args .b) i) (a * 2 ^ i % 2 ^ 64) (bit-lt (c .before .before .args .b) i)
+      fits = digit-lt (bitOf (c .before .before .args .b) i) (a * 2 ^ i % 2 ^ 64) (2 ^ 64) (bit-lt (c .before .before .args .b) i)
           (mod-lt (a * 2 ^ i) (pow-pos 64));
     }
 

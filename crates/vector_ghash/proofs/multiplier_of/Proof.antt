@@ -1,11 +1,11 @@
--- `multiplicand_of` gives what is multiplied by the key. Assumes nothing.
+-- `multiplier_of` gives what is multiplied by the key. Assumes nothing.
 use mathlib.Core.Path.{ap, ap₂, sym, _∙_}
 use lib.Bits.{bitXor}
-use Rattle.vector_ghash.specs.declared.Multiplicand.{Multiplicand}
-use Rattle.vector_ghash.specs.GhashWords.{multiplicandOf}
+use Rattle.vector_ghash.specs.declared.GhashMultiplier.{GhashMultiplier}
+use Rattle.vector_ghash.specs.GhashWords.{multiplierOf}
 use borrow.Author.Needs.{needs}
-use Rattle.vector_ghash.proofs.multiplicand_of.Statement.{statement}
-use Rattle.vector_ghash.proofs.multiplicand_of.Tie as tie
+use Rattle.vector_ghash.proofs.multiplier_of.Statement.{statement}
+use Rattle.vector_ghash.proofs.multiplier_of.Tie as tie
 
 enum-told : tie.Need-enum-told
 enum-told c = search needs
@@ -30,16 +30,16 @@ returns c =
     let s = c .before .before .before .before .before .before in
     c .xor .ensures
     ∙ ap₂ bitXor (c .before .before .group .ensures) (c .before .group2 .ensures)
-    ∙ ap (λ (m : Multiplicand). multiplicandOf m (s .args .f) (s .args .s) (s .args .file .now) (s .args .i)) (sym (c .before .before .before .enum-told .given .1))
+    ∙ ap (λ (m : GhashMultiplier). multiplierOf m (s .args .f) (s .args .s) (s .args .file .now) (s .args .i)) (sym (c .before .before .before .enum-told .given .1))
 
 returns-2 : tie.Need-returns-2
 returns-2 c =
     let s = c .before .before .before .before in
     c .group3 .ensures
-    ∙ ap (λ (m : Multiplicand). multiplicandOf m (s .args .f) (s .args .s) (s .args .file .now) (s .args .i)) (sym (c .before .enum-told2 .given .1))
+    ∙ ap (λ (m : GhashMultiplier). multiplierOf m (s .args .f) (s .args .s) (s .args .file .now) (s .args .i)) (sym (c .before .enum-told2 .given .1))
 
-pub multiplicand-of-spec : {M : Type 1} → statement M
-multiplicand-of-spec =
+pub multiplier-of-spec : {M : Type 1} → statement M
+multiplier-of-spec =
     tie.close
     (tie.spec
     enum-told
