@@ -32,7 +32,7 @@ AlignedMultiplier Vs1 f s = f .vs1 % s .lmul ≡ 0
 AlignedMultiplier (Scalar x) f s = Unit {0}
 
 -- n bytes are 8n bits
-bytes-bits : (n : ℕ) → 256 ^ n ≡ 2 ^ (8 * n)
+pub bytes-bits : (n : ℕ) → 256 ^ n ≡ 2 ^ (8 * n)
 bytes-bits zero = refl
 bytes-bits (suc n) =
     pow-suc 256 n ∙ ap (λ (x : ℕ). x * 256) (bytes-bits n) ∙ sym (ap (λ (k : ℕ). 2 ^ k) (mul-suc 8 n) ∙ pow-add 2 (8 * n) 8)

@@ -24,19 +24,19 @@ use Rattle.vector_refusal.specs.Refusal.{refusalOf, refusalOfKnown}
 use Rattle.vector_element.specs.Clmul.{clmul, clmul64}
 use Rattle.vector_element.specs.Element.{readLe, writeLe, maskBit, blockPlace}
 use Rattle.vector_clmul.specs.Carryless.{carrylessResult, carrylessStep, carryless}
-use Rattle.vector_clmul.specs.Steps.{steps}
-use Rattle.vector_ghash.specs.declared.Multiplicand.{Multiplicand}
-use Rattle.vector_ghash.specs.declared.Multiplicand.the-variants.{YXorX, YAlone}
-use Rattle.vector_ghash.specs.GhashWords.{group, multiplicandOf, vvStep, vsStep, ghashVv, ghashVs}
+use Rattle.vector_element.specs.Steps.{steps}
+use Rattle.vector_ghash.specs.declared.GhashMultiplier.{GhashMultiplier}
+use Rattle.vector_ghash.specs.declared.GhashMultiplier.the-variants.{YXorX, YAlone}
+use Rattle.vector_ghash.specs.GhashWords.{group, multiplierOf, vvStep, vsStep, ghashVv, ghashVs}
 use Rattle.vector_execute.specs.Execute.{doneKnown, done, executed, vstartAfter}
 use Rattle.theorems.specs.Examples.{Example, call, known, word, question, times, hash, state, feeds, degree, back, execution, running, file, table, Holds, AllHold, ExamplesHold}
 use Rattle.theorems.proofs.Marked.{same, place, numbersOf, goesBack, same-at, is-word, goes-back}
 
 -- ---- a call that computes fast: the executor's definition over the product, which is then the quick one
 
-ghashBy : (ℕ → ℕ → ℕ) → Multiplicand → Fields → Settings → (ℕ → List ℕ → ℕ) → List ℕ → List ℕ
+ghashBy : (ℕ → ℕ → ℕ) → GhashMultiplier → Fields → Settings → (ℕ → List ℕ → ℕ) → List ℕ → List ℕ
 ghashBy p m f s key bytes =
-    steps (λ i b. putBlock b (blockPlace (s .vlen) (f .vd) i) (p (multiplicandOf m f s b i) (key i b)))
+    steps (λ i b. putBlock b (blockPlace (s .vlen) (f .vd) i) (p (multiplierOf m f s b i) (key i b)))
     (s .vl / 4 - s .vstart / 4) (s .vstart / 4) bytes
 
 doneBy : (ℕ → ℕ → ℕ) → Word → Settings → ℕ → List ℕ → List ℕ

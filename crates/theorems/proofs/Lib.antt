@@ -8,4 +8,5 @@ pub mod Groups
 pub mod Marked
 pub mod Pseudocode
 pub mod Registers
+pub mod Reversal
 pub mod Witnesses
