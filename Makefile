@@ -1,14 +1,14 @@
 # The targets are listed by a bare `make`. README says which to use when.
 SHELL := /bin/bash
 .DEFAULT_GOAL := help
-.PHONY: help setup tools demo test archive install uninstall bench derive integration riscv clean
+.PHONY: help setup tools demo test archive install uninstall bench derive integration riscv demo-riscv clean
 lib := target/staticlib/librvghash.a
 version := $(shell cat VERSION)
 PREFIX ?= /usr/local
 DESTDIR ?=
 
 help: ## lists the targets
-	@awk -F ':.*## ' '/^[a-z]+:.*## / { printf "make %-12s %s\n", $$1, $$2 }' Makefile
+	@awk -F ':.*## ' '/^[a-z-]+:.*## / { printf "make %-12s %s\n", $$1, $$2 }' Makefile
 
 setup: ## installs what demo and test need from Debian's packages (as root; else prints the line that does)
 	@host/setup install demo test
@@ -63,6 +63,10 @@ integration: $(lib) ## measures the archive, and writes docs/INTEGRATION.md
 riscv: $(lib) ## writes the box's libraries, target/riscv64/rv64gc/librvghash.a and target/riscv64/rv64imac/librvghash.a
 	@host/setup check riscv
 	host/riscv/build
+
+demo-riscv: riscv ## runs the guest of examples/trap, whose instructions trap, under qemu-riscv64
+	@host/setup check demo-riscv
+	host/riscv/demo
 
 clean: ## removes all that was built
 	rm -rf target

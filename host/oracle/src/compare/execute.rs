@@ -4,7 +4,7 @@
 use super::execute_inputs::{any, content, scalar, vlmax, Case, MOST_FILE};
 use crate::ffi::rvghash_execute;
 use crate::lent::{strays, Lent};
-use crate::model::execute::{execute, Request, LMULS, SEWS, VLENS};
+use crate::model::execute::{execute, LMULS, SEWS, VLENS};
 use crate::model::word::{Row, TABLE};
 use crate::report::{Bytes, Group, Hex, Run, Seen};
 use crate::rng::Rng;
@@ -48,16 +48,7 @@ impl Memory {
 }
 
 fn compare(group: &mut Group, memory: &mut Memory, rng: &mut Rng, c: &Case) {
-    let outcome = execute(&Request {
-        word: c.word.0 as u32,
-        vlen: c.vlen,
-        sew: c.sew,
-        lmul: c.lmul,
-        vl: c.vl,
-        vstart: c.vstart,
-        scalar: c.scalar.0,
-        file: &c.file.0,
-    });
+    let outcome = execute(&c.request());
     let left = Left { vstart: outcome.vstart, file: Bytes(outcome.file) };
     group.compare(c, Seen::expected(outcome.answer, left), || memory.call(rng, c));
 }

@@ -2,7 +2,7 @@
 //! A rate named `bad` is the number of wrong values in a thousand.
 
 use super::inputs;
-use crate::model::execute::{LMULS, SEWS, VLENS};
+use crate::model::execute::{Request, LMULS, SEWS, VLENS};
 use crate::model::word::{Kind, TABLE};
 use crate::report::{Bytes, Hex};
 use crate::rng::Rng;
@@ -17,6 +17,22 @@ pub struct Case {
     pub vstart: u32,
     pub scalar: Hex,
     pub file: Bytes,
+}
+
+impl Case {
+    /// The case as the model takes it.
+    pub fn request(&self) -> Request<'_> {
+        Request {
+            word: self.word.0 as u32,
+            vlen: self.vlen,
+            sew: self.sew,
+            lmul: self.lmul,
+            vl: self.vl,
+            vstart: self.vstart,
+            scalar: self.scalar.0,
+            file: &self.file.0,
+        }
+    }
 }
 
 /// The longest file that `file` makes.

@@ -98,7 +98,7 @@ pub fn run(run: &Run) {
 }
 
 /// The steps of a run over A and C in random pieces, with calls in between that must be refused.
-fn cut(rng: &mut Rng, key: &Block, a: &[u8], c: &[u8]) -> Vec<Step> {
+pub fn cut(rng: &mut Rng, key: &Block, a: &[u8], c: &[u8]) -> Vec<Step> {
     let mut steps = vec![];
     for piece in pieces(rng, a) {
         steps.push(Step::feed_a(rng, key, piece));

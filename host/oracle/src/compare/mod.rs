@@ -11,8 +11,11 @@ mod past_32_bits;
 mod product;
 mod running;
 mod step_back;
+mod written;
 
 use crate::report::{watch_for_crashes, Run};
+
+pub use written::write;
 
 pub fn run(run: &Run) {
     watch_for_crashes();

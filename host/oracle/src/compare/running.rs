@@ -187,7 +187,7 @@ fn fresh(run: &Run, memory: &mut Memory) {
 }
 
 /// Fields of a phase, as well-formed as they come, then perhaps damaged once or twice.
-fn any_state(rng: &mut Rng) -> State {
+pub fn any_state(rng: &mut Rng) -> State {
     let phase = rng.pick(&[0, 0, 0, 1, 1, 1, 1, 2]);
     let a_count = count(rng);
     let c_count = if phase == 0 { 0 } else { count(rng) };
@@ -242,7 +242,7 @@ fn damage(rng: &mut Rng, state: &mut State) {
 }
 
 /// A call for these fields: mostly one that the phase takes, with a piece that often ends near the limit.
-fn any_step(rng: &mut Rng, state: &State) -> Step {
+pub fn any_step(rng: &mut Rng, state: &State) -> Step {
     let key = block(rng);
     let for_phase = if state.phase == 0 { Which::FeedA } else { Which::FeedC };
     let which = rng.pick(&[for_phase, for_phase, Which::FeedA, Which::FeedC, Which::Finish]);

@@ -11,11 +11,11 @@ use crate::report::{Bytes, Group, Run, Seen};
 use crate::rng::Rng;
 
 #[derive(Debug)]
-struct Case {
-    key: Bytes,
-    block: Bytes,
-    later: Bytes,
-    out: Bytes,
+pub struct Case {
+    pub key: Bytes,
+    pub block: Bytes,
+    pub later: Bytes,
+    pub out: Bytes,
 }
 
 struct Memory {
@@ -66,7 +66,7 @@ fn random(run: &Run) {
 }
 
 /// The later hash is any, or one that is known to be reached: from a Y that is any, or X itself.
-fn any_case(rng: &mut Rng) -> Case {
+pub fn any_case(rng: &mut Rng) -> Case {
     let (h, x, y) = (block(rng), block(rng), block(rng));
     let later = match rng.below(6) {
         0 => ZERO,

@@ -1,0 +1,173 @@
+//! Cases in a file, for a library of another machine: what each call is lent, and what it must answer and leave.
+//! host/tests/riscv_cases.h has the reader's side of the format.
+
+use super::execute_inputs::any;
+use super::hash::cut;
+use super::inputs::{block, out_after, out_before, part_length, perhaps_odd};
+use super::running::{any_state, any_step, to_memory, Step, Which};
+use super::step_back::any_case;
+use crate::ffi::{Path, PATHS};
+use crate::model::execute::execute;
+use crate::model::field::{Block, ZERO};
+use crate::model::hash::ghash_call;
+use crate::model::running::{transition, Fed, State, FRESH};
+use crate::model::step_back::step_back_call;
+use crate::report::{Bytes, Run};
+use crate::rng::Rng;
+use std::fs::File;
+use std::io::{BufWriter, Result, Write};
+
+/// The functions, by their number in the file.
+#[derive(Clone, Copy)]
+enum Function {
+    Execute,
+    Ghash(Path),
+    StepBack,
+    Running(Which, Path),
+}
+
+impl Function {
+    fn number(self) -> u32 {
+        let plain = |path| (path == Path::Plain) as u32;
+        match self {
+            Function::Execute => 0,
+            Function::StepBack => 1,
+            Function::Ghash(path) => 2 + plain(path),
+            Function::Running(Which::FeedA, path) => 4 + plain(path),
+            Function::Running(Which::FeedC, path) => 6 + plain(path),
+            Function::Running(Which::Finish, path) => 8 + plain(path),
+        }
+    }
+}
+
+/// A buffer that a call is lent: its alignment, and what it holds before and after the call.
+struct Lent<'a> {
+    align: u32,
+    before: &'a [u8],
+    after: &'a [u8],
+    /// So many bytes must be those of `after`; the rest is free.
+    compared: usize,
+}
+
+fn lent<'a>(align: u32, before: &'a [u8], after: &'a [u8]) -> Lent<'a> {
+    Lent { align, before, after, compared: after.len() }
+}
+
+fn read(bytes: &Bytes) -> Lent<'_> {
+    lent(1, &bytes.0, &bytes.0)
+}
+
+struct Cases {
+    out: BufWriter<File>,
+}
+
+impl Cases {
+    fn numbers(&mut self, numbers: &[u32]) -> Result<()> {
+        numbers.iter().try_for_each(|n| self.out.write_all(&n.to_le_bytes()))
+    }
+
+    fn call(&mut self, function: Function, answer: u32, scalars: &[u64], buffers: &[Lent]) -> Result<()> {
+        self.numbers(&[function.number(), answer, scalars.len() as u32, buffers.len() as u32])?;
+        scalars.iter().try_for_each(|n| self.out.write_all(&n.to_le_bytes()))?;
+        buffers.iter().try_for_each(|b| self.buffer(b))
+    }
+
+    /// The content before, and the part of it that changes.
+    fn buffer(&mut self, b: &Lent) -> Result<()> {
+        let differs = |&i: &usize| b.before[i] != b.after[i];
+        let start = (0..b.compared).find(differs).unwrap_or(0);
+        let end = (0..b.compared).rev().find(differs).map_or(0, |last| last + 1);
+        self.numbers(&[b.before.len(), b.align as usize, b.compared, start, end - start].map(|n| n as u32))?;
+        self.out.write_all(b.before)?;
+        self.out.write_all(&b.after[start..end])
+    }
+
+    fn execution(&mut self, rng: &mut Rng) -> Result<()> {
+        let c = any(rng);
+        let after = execute(&c.request());
+        let scalars = [c.word.0, c.vlen as u64, c.sew as u64, c.lmul as u64, c.vl as u64, c.scalar.0];
+        let vstart = [c.vstart, after.vstart].map(u32::to_le_bytes);
+        let buffers = [lent(4, &vstart[0], &vstart[1]), lent(1, &c.file.0, &after.file)];
+        self.call(Function::Execute, after.answer, &scalars, &buffers)
+    }
+
+    fn step_back(&mut self, rng: &mut Rng) -> Result<()> {
+        let c = any_case(rng);
+        let model = step_back_call(&c.key.0, &c.block.0, &c.later.0, c.out.0.len());
+        let after = out_after(&c.out, model.block);
+        let buffers = [read(&c.key), read(&c.block), read(&c.later), lent(1, &c.out.0, &after.0)];
+        self.call(Function::StepBack, model.answer, &[], &buffers)
+    }
+
+    /// A message whole on both paths, and in pieces, the paths mixed.
+    fn message(&mut self, rng: &mut Rng) -> Result<()> {
+        let key = block(rng);
+        let [a, c] = [0; 2].map(|_| {
+            let len = part_length(rng);
+            rng.bytes(len)
+        });
+        let steps = cut(rng, &key, &a, &c);
+        self.pieces(rng, &key, &steps)?;
+        let bad = rng.pick(&[0, 0, 0, 100]);
+        let (key, out, a, c) = (perhaps_odd(rng, key, bad), out_before(rng, bad), Bytes(a), Bytes(c));
+        let model = ghash_call(&key.0, &a.0, &c.0, out.0.len());
+        let after = out_after(&out, model.block);
+        for path in PATHS {
+            let buffers = [read(&key), read(&a), read(&c), lent(1, &out.0, &after.0)];
+            self.call(Function::Ghash(path), model.answer, &[], &buffers)?;
+        }
+        Ok(())
+    }
+
+    fn pieces(&mut self, rng: &mut Rng, key: &Block, steps: &[Step]) -> Result<()> {
+        let (mut fed, mut before) = (Fed::default(), FRESH);
+        for step in steps {
+            let answer = fed.apply(step.key.0.len(), step.call());
+            let after = fed.state(key);
+            self.running(rng, &before, step, answer, &after)?;
+            before = after;
+        }
+        Ok(())
+    }
+
+    fn any_running(&mut self, rng: &mut Rng) -> Result<()> {
+        let before = any_state(rng);
+        let step = any_step(rng, &before);
+        let (answer, after) = transition(&before, &step.key.0, step.call());
+        self.running(rng, &before, &step, answer, &after)
+    }
+
+    fn running(&mut self, rng: &mut Rng, before: &State, s: &Step, answer: u32, after: &State) -> Result<()> {
+        let finished = if answer == 0 { after.y } else { ZERO };
+        let out = out_after(&s.out, finished);
+        let (before, after) = (to_memory(rng, before), to_memory(rng, after));
+        let running = Lent { compared: PADDING_AT, ..lent(8, &before, &after) };
+        let function = Function::Running(s.which, s.path);
+        match s.which {
+            Which::Finish => self.call(function, answer, &[], &[running, read(&s.key), lent(1, &s.out.0, &out.0)]),
+            _ => self.call(function, answer, &[], &[running, read(&s.key), read(&s.piece)]),
+        }
+    }
+}
+
+/// The bytes of a running hash after its fields are free.
+const PADDING_AT: usize = 41;
+
+/// Writes the cases of this seed.
+pub fn write(run: &Run, path: &str) -> Result<()> {
+    let mut cases = Cases { out: BufWriter::new(File::create(path)?) };
+    cases.out.write_all(b"rvghash cases 1\n")?;
+    let groups: [(&str, u64, fn(&mut Cases, &mut Rng) -> Result<()>); 4] = [
+        ("executions", 24_000, Cases::execution),
+        ("step backs", 1_200, Cases::step_back),
+        ("messages, whole and in pieces", 600, Cases::message),
+        ("running hashes, any fields", 10_000, Cases::any_running),
+    ];
+    for (name, count, one) in groups {
+        for index in 0..count * run.factor {
+            one(&mut cases, &mut Rng::for_call(run.seed, name, index))?;
+        }
+        println!("written: {name}: {}", count * run.factor);
+    }
+    cases.out.flush()
+}
