@@ -18,7 +18,8 @@ use Rattle.vector_word.specs.declared.Kind.the-variants.{VclmulVv, VclmulVx, Vc
 use Rattle.vector_word.specs.declared.Word.{Word}
 use Rattle.vector_word.specs.declared.Word.the-variants.{Known, Unknown}
 use Rattle.vector_registers.specs.Settings.{misaligned}
-use Rattle.vector_refusal.specs.Refusal.{isVs, hasVs1Group, refusalOf}
+use Rattle.vector_word.specs.Kinds.{isVs, hasVs1Group}
+use Rattle.vector_refusal.specs.Refusal.{refusalOf}
 use Rattle.vector_word.specs.Word.{decode}
 use Rattle.vector_word.proofs.Tests.{or-false}
 use Rattle.vector_element.specs.declared.clmul.Half.{Half}

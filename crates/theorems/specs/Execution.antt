@@ -12,7 +12,7 @@ use Rattle.vector_registers.specs.declared.settings.Settings.{Settings}
 use Rattle.vector_word.specs.declared.Fields.{Fields}
 use Rattle.vector_word.specs.declared.Kind.{Kind}
 use Rattle.vector_word.specs.declared.Kind.the-variants.{VclmulVv, VclmulVx, VclmulhVv, VclmulhVx, VghshVv, VghshVs, VgmulVv, VgmulVs}
-use Rattle.vector_refusal.specs.Refusal.{isGhash}
+use Rattle.vector_word.specs.Kinds.{isGhash}
 use Rattle.vector_element.specs.Clmul.{clmul64, lowHalf, highHalf}
 use Rattle.vector_element.specs.Element.{elementAt, blockPlace}
 use Rattle.vector_clmul.specs.Carryless.{active, element, scalarOf}

@@ -16,7 +16,8 @@ use Rattle.vector_word.specs.declared.Kind.{Kind}
 use Rattle.vector_word.specs.declared.Kind.the-variants.{VclmulVv, VclmulVx, VclmulhVv, VclmulhVx, VghshVv, VghshVs, VgmulVv, VgmulVs}
 use Rattle.vector_word.specs.declared.Word.the-variants.{Known}
 use Rattle.vector_word.specs.Word.{decode}
-use Rattle.vector_refusal.specs.Refusal.{isGhash, refusalOf}
+use Rattle.vector_word.specs.Kinds.{isGhash}
+use Rattle.vector_refusal.specs.Refusal.{refusalOf}
 use Rattle.vector_element.specs.Element.{readLe, writeLe}
 use Rattle.vector_clmul.specs.Carryless.{active}
 use Rattle.vector_execute.specs.Execute.{executed}

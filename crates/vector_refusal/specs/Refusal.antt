@@ -1,61 +1,16 @@
 -- Document 01, "Refusal numbers" 0 to 8. Where several apply the smallest is given.
 -- Assumes nothing.
 use Prim.Native.Nat.{ℕ, _%_}
-use mathlib.Core.Bool.{Bool, true, false, cond, not, _&&_, _||_}
+use mathlib.Core.Bool.{Bool, cond, not, _&&_, _||_}
 use lib.Dec.{eqb}
 use Rattle.vector_registers.specs.declared.settings.Settings.{Settings}
 use Rattle.vector_registers.specs.Settings.{misaligned, applies1, applies3}
 use Rattle.vector_word.specs.declared.Kind.{Kind}
-use Rattle.vector_word.specs.declared.Kind.the-variants.{VclmulVv, VclmulVx, VclmulhVv, VclmulhVx, VghshVv, VghshVs, VgmulVv, VgmulVs}
 use Rattle.vector_word.specs.declared.Fields.{Fields}
 use Rattle.vector_word.specs.declared.Word.{Word}
 use Rattle.vector_word.specs.declared.Word.the-variants.{Known, Unknown}
+use Rattle.vector_word.specs.Kinds.{isGhash, isVv, isVs, hasVs1Group}
 use Rattle.vector_word.specs.Word.{decode}
-
--- ---- kinds of word
-
-abbrev pub isGhash : Kind → Bool
-isGhash VclmulVv = false
-isGhash VclmulVx = false
-isGhash VclmulhVv = false
-isGhash VclmulhVx = false
-isGhash VghshVv = true
-isGhash VghshVs = true
-isGhash VgmulVv = true
-isGhash VgmulVs = true
-
--- a .vs word: vs2 is the key alone, and no group
-abbrev pub isVs : Kind → Bool
-isVs VclmulVv = false
-isVs VclmulVx = false
-isVs VclmulhVv = false
-isVs VclmulhVx = false
-isVs VghshVv = false
-isVs VghshVs = true
-isVs VgmulVv = false
-isVs VgmulVs = true
-
--- the carry-less .vv words
-abbrev pub isCarrylessVv : Kind → Bool
-isCarrylessVv VclmulVv = true
-isCarrylessVv VclmulVx = false
-isCarrylessVv VclmulhVv = true
-isCarrylessVv VclmulhVx = false
-isCarrylessVv VghshVv = false
-isCarrylessVv VghshVs = false
-isCarrylessVv VgmulVv = false
-isCarrylessVv VgmulVs = false
-
--- vs1 is a register group: the carry-less .vv words and both vghsh words
-abbrev pub hasVs1Group : Kind → Bool
-hasVs1Group VclmulVv = true
-hasVs1Group VclmulVx = false
-hasVs1Group VclmulhVv = true
-hasVs1Group VclmulhVx = false
-hasVs1Group VghshVv = true
-hasVs1Group VghshVs = true
-hasVs1Group VgmulVv = false
-hasVs1Group VgmulVs = false
 
 -- ---- the other numbers, in the table's words
 
@@ -79,7 +34,7 @@ applies7 k f = isVs k && eqb (f .vs2) (f .vd)
 
 -- vm is 0 and vd, vs2 or (.vv) vs1 is register 0
 abbrev pub applies8 : Kind → Fields → Bool
-applies8 k f = eqb (f .vm) 0 && (eqb (f .vd) 0 || (eqb (f .vs2) 0 || (isCarrylessVv k && eqb (f .vs1) 0)))
+applies8 k f = eqb (f .vm) 0 && (eqb (f .vd) 0 || (eqb (f .vs2) 0 || (isVv k && eqb (f .vs1) 0)))
 
 -- ---- the smallest that applies, or 0
 

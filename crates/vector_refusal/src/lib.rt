@@ -1,8 +1,8 @@
 // The refusal of a word under its settings: document 01's numbers 0 to 8.
 ghost use mathlib.Core.Bool.{not, _&&_};
 ghost use mathlib.Core.Path.{_≡_};
+ghost use Rattle.vector_word.specs.Kinds.{isVs};
 ghost use Rattle.vector_registers.specs.Settings.{misaligned};
-ghost use Rattle.vector_refusal.specs.Refusal.{isGhash, isVs, isCarrylessVv, hasVs1Group};
 ghost use Rattle.vector_refusal.specs.Refusal.{applies4, applies5, applies6, applies7, applies8, refusalOfKnown, refusalOfWord, refusalOf};
 use vector_registers::settings::Settings;
 use vector_registers::settings::applies_1;
@@ -12,72 +12,10 @@ use vector_word::Fields;
 use vector_word::Kind;
 use vector_word::Word;
 use vector_word::decode;
-
-// ---- kinds of word
-
-// A GHASH word: vghsh and vgmul.
-fn is_ghash(k: Kind) -> bool
-    ensures { λ r. ⌜ r ≡ isGhash k ⌝ }
-{
-    match k {
-        Kind::VclmulVv => false,
-        Kind::VclmulVx => false,
-        Kind::VclmulhVv => false,
-        Kind::VclmulhVx => false,
-        Kind::VghshVv => true,
-        Kind::VghshVs => true,
-        Kind::VgmulVv => true,
-        Kind::VgmulVs => true,
-    }
-}
-
-// A .vs word: vs2 is the key alone, and no group.
-fn is_vs(k: Kind) -> bool
-    ensures { λ r. ⌜ r ≡ isVs k ⌝ }
-{
-    match k {
-        Kind::VclmulVv => false,
-        Kind::VclmulVx => false,
-        Kind::VclmulhVv => false,
-        Kind::VclmulhVx => false,
-        Kind::VghshVv => false,
-        Kind::VghshVs => true,
-        Kind::VgmulVv => false,
-        Kind::VgmulVs => true,
-    }
-}
-
-// The carry-less .vv words.
-fn is_carryless_vv(k: Kind) -> bool
-    ensures { λ r. ⌜ r ≡ isCarrylessVv k ⌝ }
-{
-    match k {
-        Kind::VclmulVv => true,
-        Kind::VclmulVx => false,
-        Kind::VclmulhVv => true,
-        Kind::VclmulhVx => false,
-        Kind::VghshVv => false,
-        Kind::VghshVs => false,
-        Kind::VgmulVv => false,
-        Kind::VgmulVs => false,
-    }
-}
-
-// vs1 is a register group: the carry-less .vv words and both vghsh words.
-fn has_vs1_group(k: Kind) -> bool
-    ensures { λ r. ⌜ r ≡ hasVs1Group k ⌝ }
-{
-    match k {
-        Kind::VclmulVv => true,
-        Kind::VclmulVx => false,
-        Kind::VclmulhVv => true,
-        Kind::VclmulhVx => false,
-        Kind::VghshVv => true,
-        Kind::VghshVs => true,
-        Kind::VgmulVv => false,
-        Kind::VgmulVs => false,
-    }
-}
+use vector_word::kinds::has_vs1_group;
+use vector_word::kinds::is_ghash;
+use vector_word::kinds::is_vs;
+use vector_word::kinds::is_vv;
 
 // ---- each number, in the table's words
 
@@ -153,7 +91,7 @@ fn applies_8(k: Kind, f: Fields) -> bool
     if f.vs2 == 0 {
         return true;
     }
-    if is_carryless_vv(k) {
+    if is_vv(k) {
         return f.vs1 == 0;
     }
     false

@@ -18,8 +18,8 @@ abbrev pub bits : ℕ → ℕ → ℕ → ℕ
 bits word low n = word / 2 ^ low % 2 ^ n
 
 -- high bit to low: funct6 (6), vm (1), vs2 (5), vs1 or rs1 (5), funct3 (3), vd (5), opcode (7)
-abbrev pub funct6 : ℕ → ℕ
-funct6 word = bits word 26 6
+abbrev pub funct6Of : ℕ → ℕ
+funct6Of word = bits word 26 6
 
 abbrev pub vmOf : ℕ → ℕ
 vmOf word = bits word 25 1
@@ -30,18 +30,19 @@ vs2Of word = bits word 20 5
 abbrev pub vs1Of : ℕ → ℕ
 vs1Of word = bits word 15 5
 
-abbrev pub funct3 : ℕ → ℕ
-funct3 word = bits word 12 3
+abbrev pub funct3Of : ℕ → ℕ
+funct3Of word = bits word 12 3
 
 abbrev pub vdOf : ℕ → ℕ
 vdOf word = bits word 7 5
 
-abbrev pub opcode : ℕ → ℕ
-opcode word = bits word 0 7
+abbrev pub opcodeOf : ℕ → ℕ
+opcodeOf word = bits word 0 7
 
 -- what a row of the table says, column by column
 abbrev pub rowWith : ℕ → Given → Given → ℕ → ℕ → Row
-rowWith six vm vs1 three code = record { six = six; vm = vm; vs1 = vs1; three = three; code = code }
+rowWith funct6 vm vs1 funct3 opcode =
+    record { funct6 = funct6; vm = vm; vs1 = vs1; funct3 = funct3; opcode = opcode }
 
 -- the table: funct6, vm, vs1 field, funct3, opcode
 abbrev pub row : Kind → Row
@@ -61,10 +62,10 @@ allows (Is n) v = eqb v n
 -- the word has the row's fields
 abbrev pub isRow : Row → ℕ → Bool
 isRow r word =
-    eqb (funct6 word) (r .six)
+    eqb (funct6Of word) (r .funct6)
     && (allows (r .vm) (vmOf word)
     && (allows (r .vs1) (vs1Of word)
-    && (eqb (funct3 word) (r .three) && eqb (opcode word) (r .code))))
+    && (eqb (funct3Of word) (r .funct3) && eqb (opcodeOf word) (r .opcode))))
 
 abbrev pub fieldsOf : ℕ → Fields
 fieldsOf word = record { vm = vmOf word; vs2 = vs2Of word; vs1 = vs1Of word; vd = vdOf word }

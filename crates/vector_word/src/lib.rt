@@ -1,4 +1,6 @@
 // The eight words and their fields: document 01, "The eight words".
+pub mod kinds;
+
 ghost use mathlib.Core.Path.{_≡_};
 ghost use Rattle.vector_word.specs.Word.{rowWith, row, allows, isRow, fieldsOf, asKind, decode};
 
@@ -36,24 +38,24 @@ pub enum Given {
 
 // A row of the table, a field for each column.
 pub struct Row {
-    pub six: u32,
+    pub funct6: u32,
     pub vm: Given,
     pub vs1: Given,
-    pub three: u32,
-    pub code: u32,
+    pub funct3: u32,
+    pub opcode: u32,
 }
 
 impl Row {
     // funct6, vm, vs1 field, funct3, opcode.
-    fn new(six: u32, vm: Given, vs1: Given, three: u32, code: u32) -> Self
-        ensures { λ r. ⌜ r ≡ rowWith six vm vs1 three code ⌝ }
+    fn new(funct6: u32, vm: Given, vs1: Given, funct3: u32, opcode: u32) -> Self
+        ensures { λ r. ⌜ r ≡ rowWith funct6 vm vs1 funct3 opcode ⌝ }
     {
         Self {
-            six,
+            funct6,
             vm,
             vs1,
-            three,
-            code,
+            funct3,
+            opcode,
         }
     }
 }
@@ -90,7 +92,7 @@ fn is_row(r: Row, word: u32) -> bool
 {
     let vm = r.vm;
     let vs1 = r.vs1;
-    if (word >> 26) % 64 != r.six {
+    if (word >> 26) % 64 != r.funct6 {
         return false;
     }
     if !allows(vm, (word >> 25) % 2) {
@@ -99,10 +101,10 @@ fn is_row(r: Row, word: u32) -> bool
     if !allows(vs1, (word >> 15) % 32) {
         return false;
     }
-    if (word >> 12) % 8 != r.three {
+    if (word >> 12) % 8 != r.funct3 {
         return false;
     }
-    word % 128 == r.code
+    word % 128 == r.opcode
 }
 
 // The fields of a word.

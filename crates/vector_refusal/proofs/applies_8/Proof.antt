@@ -24,8 +24,8 @@ returns-3 c =
     (or-next _ _ (ne-eqb _ _ (c2 .if2 .left))
     (or-here _ _ (eq-eqb _ _ (c .if3 .taken))))
 
-is-carryless-vv-requires : tie.Need-is-carryless-vv-requires
-is-carryless-vv-requires c κs = search needs
+is-vv-requires : tie.Need-is-vv-requires
+is-vv-requires c κs = search needs
 
 returns-4 : tie.Need-returns-4
 returns-4 c =
@@ -36,7 +36,7 @@ returns-4 c =
     and-next _ _ (eq-eqb _ _ (c1 .if1 .left))
     (or-next _ _ (ne-eqb _ _ (c2 .if2 .left))
     (or-next _ _ (ne-eqb _ _ (c3 .if3 .left))
-    (and-next _ _ (sym (c4 .before .is-carryless-vv .ensures) ∙ c4 .if4 .taken) refl)))
+    (and-next _ _ (sym (c4 .before .is-vv .ensures) ∙ c4 .if4 .taken) refl)))
 
 returns-5 : tie.Need-returns-5
 returns-5 c =
@@ -46,8 +46,8 @@ returns-5 c =
     and-next _ _ (eq-eqb _ _ (c1 .if1 .left))
     (or-next _ _ (ne-eqb _ _ (c2 .if2 .left))
     (or-next _ _ (ne-eqb _ _ (c3 .if3 .left))
-    (and-here _ _ (sym (c .before .is-carryless-vv .ensures) ∙ c .if4 .left))))
+    (and-here _ _ (sym (c .before .is-vv .ensures) ∙ c .if4 .left))))
 
 pub applies-8-spec : {M : Type 1} → statement M
 applies-8-spec =
-    tie.close (tie.spec returns returns-2 returns-3 is-carryless-vv-requires returns-4 returns-5)
+    tie.close (tie.spec returns returns-2 returns-3 is-vv-requires returns-4 returns-5)
