@@ -1,24 +1,43 @@
--- The allowed lengths of a register and of a group, one by one.
+-- What holds of each allowed VLEN, SEW or LMUL holds of one that is allowed (`each-vlen`, `each-sew`, `each-lmul`); and what an allowed
+-- LMUL tells of its groups (`group-registers`, `times-lmul`).
 -- Assumes nothing.
-use Prim.Native.Nat.{ℕ}
+use Prim.Native.Nat.{ℕ, _*_, _≤_}
 use mathlib.Core.Bool.{true, _||_}
-use mathlib.Core.Logic.{_⊎_, inl, inr, ⊎-elim}
-use mathlib.Core.Path.{_≡_}
+use mathlib.Core.Logic.{⊎-elim}
+use mathlib.Core.Path.{_≡_, subst⁻¹}
+use native.Mathlib.Nat.{le-refl}
 use borrow.Author.Tests.{eqb-true}
 use lib.Dec.{eqb}
-use Rattle.vector_registers.specs.Settings.{vlenAllowed, lmulAllowed}
+use Rattle.vector_registers.specs.Settings.{oneOf, vlenAllowed, sewAllowed, lmulAllowed, groupRegisters, timesLmul}
 use Rattle.vector_word.proofs.Tests.{or-true}
 
-pub vlen-cases : (vlen : ℕ) → vlenAllowed vlen ≡ true → (vlen ≡ 128) ⊎ ((vlen ≡ 256) ⊎ (vlen ≡ 512))
-vlen-cases vlen h =
-    ⊎-elim (λ e. inl (eqb-true vlen 128 e))
-    (λ t. inr (⊎-elim (λ e. inl (eqb-true vlen 256 e)) (λ e. inr (eqb-true vlen 512 e)) (or-true (eqb vlen 256) (eqb vlen 512) t)))
-    (or-true (eqb vlen 128) (eqb vlen 256 || eqb vlen 512) h)
+module _ (P : ℕ → Type 0) (v : ℕ) where
+  at : (n : ℕ) → P n → eqb v n ≡ true → P v
+  at n p e = subst⁻¹ P (eqb-true v n e) p
 
-pub lmul-cases : (lmul : ℕ) → lmulAllowed lmul ≡ true → (lmul ≡ 1) ⊎ ((lmul ≡ 2) ⊎ ((lmul ≡ 4) ⊎ (lmul ≡ 8)))
-lmul-cases lmul h =
-    ⊎-elim (λ e. inl (eqb-true lmul 1 e))
-    (λ t. inr (⊎-elim (λ e. inl (eqb-true lmul 2 e))
-    (λ u. inr (⊎-elim (λ e. inl (eqb-true lmul 4 e)) (λ e. inr (eqb-true lmul 8 e)) (or-true (eqb lmul 4) (eqb lmul 8) u)))
-    (or-true (eqb lmul 2) (eqb lmul 4 || eqb lmul 8) t)))
-    (or-true (eqb lmul 1) (eqb lmul 2 || (eqb lmul 4 || eqb lmul 8)) h)
+  each-of : (a b c d : ℕ) → P a → P b → P c → P d → oneOf v a b c d ≡ true → P v
+  each-of a b c d pa pb pc pd h =
+      ⊎-elim (at a pa)
+      (λ t. ⊎-elim (at b pb)
+      (λ u. ⊎-elim (at c pc) (at d pd) (or-true (eqb v c) (eqb v d) u))
+      (or-true (eqb v b) (eqb v c || eqb v d) t))
+      (or-true (eqb v a) (eqb v b || (eqb v c || eqb v d)) h)
+
+  pub each-sew : P 8 → P 16 → P 32 → P 64 → sewAllowed v ≡ true → P v
+  each-sew = each-of 8 16 32 64
+
+  pub each-lmul : P 1 → P 2 → P 4 → P 8 → lmulAllowed v ≡ true → P v
+  each-lmul = each-of 1 2 4 8
+
+  pub each-vlen : P 128 → P 256 → P 512 → vlenAllowed v ≡ true → P v
+  each-vlen p q r h =
+      ⊎-elim (at 128 p) (λ t. ⊎-elim (at 256 q) (at 512 r) (or-true (eqb v 256) (eqb v 512) t))
+      (or-true (eqb v 128) (eqb v 256 || eqb v 512) h)
+
+-- a group has 1, 2, 4 or 8 registers
+pub each-group : (P : ℕ → Type 0) (lmul : ℕ) → P 1 → P 2 → P 4 → P 8 → lmulAllowed lmul ≡ true → P (groupRegisters lmul)
+each-group P lmul = each-lmul (λ (l : ℕ). P (groupRegisters l)) lmul
+
+-- the elements of LMUL registers find room in the group's
+pub times-lmul : (lmul n : ℕ) → timesLmul lmul n ≤ groupRegisters lmul * n
+times-lmul lmul n = le-refl (lmul * n)

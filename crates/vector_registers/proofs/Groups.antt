@@ -4,49 +4,34 @@
 use Prim.Native.Nat.{ℕ, _+_, _*_, _%_, _≤_, _<_}
 use mathlib.Core.Bool.{true, cond, not, _||_}
 use mathlib.Core.List.{List, []}
-use mathlib.Core.Logic.{_↔_, _≢_, ⊎-elim}
-use mathlib.Core.Path.{_≡_, refl, sym, ap, subst, _∙_}
+use mathlib.Core.Logic.{_↔_, _≢_}
+use mathlib.Core.Path.{_≡_, refl, sym, ap, _∙_}
 use native.Mathlib.Omega.{arith}
 use borrow.Author.Tests.{eqb-true, ltb-false, not-false, eq-eqb, ne-eqb}
 use lib.Dec.{eqb, ltb}
 use lib.ListN.{length, take, drop, length-take, length-drop}
-use Rattle.vector_registers.specs.Settings.{applies1, vlenAllowed, lmulAllowed, misaligned, registerBytes, fileBytes, groupLength}
+use Rattle.vector_registers.specs.Settings.{applies1, vlenAllowed, lmulAllowed, misaligned, registerBytes, fileBytes, groupRegisters, groupLength}
 use Rattle.vector_registers.specs.Group.{groupRefusal, groupOf}
-use Rattle.vector_registers.proofs.Allowed.{vlen-cases, lmul-cases}
+use Rattle.vector_registers.proofs.Allowed.{each-vlen, each-group}
 use Rattle.vector_word.proofs.Tests.{pick-here, pick-next, or-false, passed}
 
 -- an aligned group ends at the last register or before
-pub last-register : (lmul r : ℕ) → lmulAllowed lmul ≡ true → r ≤ 31 → r % lmul ≡ 0 → r + lmul ≤ 32
-last-register lmul r h le al =
-    ⊎-elim (at 1 (λ m. omega arith))
-    (⊎-elim (at 2 (λ m. omega arith)) (⊎-elim (at 4 (λ m. omega arith)) (at 8 (λ m. omega arith))))
-    (lmul-cases lmul h)
-  where
-    at : (l : ℕ) → (r % l ≡ 0 → r + l ≤ 32) → lmul ≡ l → r + lmul ≤ 32
-    at l k e = subst (λ (x : ℕ). r % x ≡ 0 → r + x ≤ 32) (sym e) k al
+pub last-register : (lmul r : ℕ) → lmulAllowed lmul ≡ true → r ≤ 31 → r % groupRegisters lmul ≡ 0 → r + groupRegisters lmul ≤ 32
+last-register lmul r h le =
+    each-group (λ (n : ℕ). r % n ≡ 0 → r + n ≤ 32) lmul (λ m. omega arith) (λ m. omega arith) (λ m. omega arith) (λ m. omega arith) h
 
 -- a group that ends at register 32 or before lies within the file
 abbrev pub InFile : ℕ → ℕ → ℕ → Type 0
 InFile r lmul vlen = r * registerBytes vlen + groupLength vlen lmul ≤ fileBytes vlen
 
-pub registers-within : (vlen r lmul : ℕ) → vlenAllowed vlen ≡ true → r + lmul ≤ 32 → InFile r lmul vlen
-registers-within vlen r lmul h le =
-    ⊎-elim (at 128 (omega arith)) (⊎-elim (at 256 (omega arith)) (at 512 (omega arith))) (vlen-cases vlen h)
-  where
-    at : (v : ℕ) → InFile r lmul v → vlen ≡ v → InFile r lmul vlen
-    at v k e = subst (InFile r lmul) (sym e) k
+pub registers-within : (vlen r lmul : ℕ) → vlenAllowed vlen ≡ true → r + groupRegisters lmul ≤ 32 → InFile r lmul vlen
+registers-within vlen r lmul h le = each-vlen (InFile r lmul) vlen (omega arith) (omega arith) (omega arith) h
 
 -- no group is empty
 some-bytes : (vlen lmul : ℕ) → vlenAllowed vlen ≡ true → lmulAllowed lmul ≡ true → 0 < groupLength vlen lmul
 some-bytes vlen lmul v l =
-    ⊎-elim (at 128 (omega (arith, one))) (⊎-elim (at 256 (omega (arith, one))) (at 512 (omega (arith, one))))
-    (vlen-cases vlen v)
-  where
-    one : 1 ≤ lmul
-    one = ⊎-elim (λ e. omega arith) (⊎-elim (λ e. omega arith) (⊎-elim (λ e. omega arith) (λ e. omega arith))) (lmul-cases lmul l)
-
-    at : (x : ℕ) → 0 < groupLength x lmul → vlen ≡ x → 0 < groupLength vlen lmul
-    at x k e = subst (λ (y : ℕ). 0 < groupLength y lmul) (sym e) k
+    let one : 1 ≤ groupRegisters lmul = each-group (λ (n : ℕ). 1 ≤ n) lmul (omega arith) (omega arith) (omega arith) (omega arith) l in
+    each-vlen (λ (x : ℕ). 0 < groupLength x lmul) vlen (omega (arith, one)) (omega (arith, one)) (omega (arith, one)) v
 
 -- what number 0 says of the settings
 pub record Granted (vlen fileLength lmul register : ℕ) : Type 0 where
@@ -54,7 +39,7 @@ pub record Granted (vlen fileLength lmul register : ℕ) : Type 0 where
   pub file-length : fileLength ≡ fileBytes vlen
   pub lmul-allowed : lmulAllowed lmul ≡ true
   pub a-register : register ≤ 31
-  pub aligned : register % lmul ≡ 0
+  pub aligned : register % groupRegisters lmul ≡ 0
 
 module _ (vlen fileLength lmul register : ℕ) (zero : groupRefusal vlen fileLength lmul register ≡ 0) where
   pub granted : Granted vlen fileLength lmul register
@@ -72,7 +57,7 @@ module _ (vlen fileLength lmul register : ℕ) (zero : groupRefusal vlen fileLen
         file-length = eqb-true _ _ (not-false (eqb fileLength (fileBytes vlen)) (file .1));
         lmul-allowed = not-false (lmulAllowed lmul) (past3 .0);
         a-register = ltb-false 31 register (number .0);
-        aligned = eqb-true _ _ (not-false (eqb (register % lmul) 0) (number .1));
+        aligned = eqb-true _ _ (not-false (eqb (register % groupRegisters lmul) 0) (number .1));
       }
 
   pub within : register * registerBytes vlen + groupLength vlen lmul ≤ fileLength

@@ -20,9 +20,17 @@ sewAllowed sew = oneOf sew 8 16 32 64
 abbrev pub lmulAllowed : ℕ → Bool
 lmulAllowed lmul = oneOf lmul 1 2 4 8
 
+-- how many registers a group has
+abbrev pub groupRegisters : ℕ → ℕ
+groupRegisters lmul = lmul
+
+-- LMUL times a number
+abbrev pub timesLmul : ℕ → ℕ → ℕ
+timesLmul lmul n = lmul * n
+
 -- VLMAX
 abbrev pub vlmax : ℕ → ℕ → ℕ → ℕ
-vlmax vlen sew lmul = lmul * vlen / sew
+vlmax vlen sew lmul = timesLmul lmul vlen / sew
 
 -- the bytes of a register, of the whole file, and of a register group
 abbrev pub registerBytes : ℕ → ℕ
@@ -32,11 +40,11 @@ abbrev pub fileBytes : ℕ → ℕ
 fileBytes vlen = 32 * vlen / 8
 
 abbrev pub groupLength : ℕ → ℕ → ℕ
-groupLength vlen lmul = lmul * registerBytes vlen
+groupLength vlen lmul = groupRegisters lmul * registerBytes vlen
 
 -- the group's number is no multiple of LMUL
 abbrev pub misaligned : ℕ → ℕ → Bool
-misaligned lmul register = not (eqb (register % lmul) 0)
+misaligned lmul register = not (eqb (register % groupRegisters lmul) 0)
 
 -- ---- the numbers that no word is needed for, in the table's words
 

@@ -1,6 +1,6 @@
 // The settings of a call: what is allowed, and what follows from it.
 ghost use mathlib.Core.Path.{_≡_};
-ghost use Rattle.vector_registers.specs.Settings.{oneOf, vlenAllowed, sewAllowed, lmulAllowed, vlmax, registerBytes, fileBytes, groupLength, misaligned, applies1, applies3};
+ghost use Rattle.vector_registers.specs.Settings.{oneOf, vlenAllowed, sewAllowed, lmulAllowed, groupRegisters, timesLmul, vlmax, registerBytes, fileBytes, groupLength, misaligned, applies1, applies3};
 
 // What the host sets before a word: VLEN and SEW in bits, LMUL in registers, vl and vstart in elements.
 pub struct Settings {
@@ -56,6 +56,20 @@ pub fn lmul_allowed(lmul: u32) -> bool
     one_of(lmul, 1, 2, 4, 8)
 }
 
+// How many registers a group has.
+fn group_registers(lmul: u32) -> u32
+    ensures { λ r. ⌜ r ≡ groupRegisters lmul ⌝ }
+{
+    lmul
+}
+
+// LMUL times a number.
+fn times_lmul(lmul: u32, n: u32) -> u64
+    ensures { λ r. ⌜ r ≡ timesLmul lmul n ⌝ }
+{
+    (lmul as u64) * (n as u64)
+}
+
 // VLMAX; 0 where SEW is 0.
 fn vlmax(vlen: u32, sew: u32, lmul: u32) -> u64
     ensures { λ r. ⌜ r ≡ vlmax vlen sew lmul ⌝ }
@@ -63,7 +77,7 @@ fn vlmax(vlen: u32, sew: u32, lmul: u32) -> u64
     if sew == 0 {
         return 0;
     }
-    (lmul as u64) * (vlen as u64) / (sew as u64)
+    times_lmul(lmul, vlen) / (sew as u64)
 }
 
 // The bytes of a register.
@@ -84,17 +98,18 @@ fn file_bytes(vlen: u32) -> usize
 pub fn group_length(vlen: u32, lmul: u32) -> usize
     ensures { λ r. ⌜ r ≡ groupLength vlen lmul ⌝ }
 {
-    (lmul as usize) * register_bytes(vlen)
+    (group_registers(lmul) as usize) * register_bytes(vlen)
 }
 
 // The group's number is no multiple of LMUL; the only multiple of 0 is 0.
 pub fn misaligned(lmul: u32, register: u32) -> bool
     ensures { λ r. ⌜ r ≡ misaligned lmul register ⌝ }
 {
-    if lmul == 0 {
+    let registers = group_registers(lmul);
+    if registers == 0 {
         return register != 0;
     }
-    register % lmul != 0
+    register % registers != 0
 }
 
 // ---- the numbers that no word is needed for, in the table's words
