@@ -13,7 +13,7 @@ use lib.ListN.{length}
 use lib.Pow.{pow-add, pow-pos}
 use Rattle.vector_registers.specs.declared.settings.Settings.{Settings}
 use Rattle.vector_word.specs.declared.Fields.{Fields}
-use Rattle.vector_registers.specs.Settings.{registerBytes, groupLength}
+use Rattle.vector_registers.specs.Settings.{registerBytes, groupRegisters, groupLength}
 use Rattle.vector_element.specs.declared.clmul.Half.{Half}
 use Rattle.vector_element.specs.declared.clmul.Half.the-variants.{Low, High}
 use Rattle.vector_clmul.specs.declared.Multiplier.{Multiplier}
@@ -24,11 +24,11 @@ use Rattle.vector_clmul.specs.Carryless.{active, element, multiplierOf, carryle
 use Rattle.theorems.specs.Execution.{Done}
 use Rattle.theorems.proofs.Bytes.{readLe-same, writeLe-length, writeLe-other, writeLe-read}
 use Rattle.theorems.proofs.Fold.{Except, Does, fold-done}
-use Rattle.theorems.proofs.Registers.{Ready, unread}
+use Rattle.theorems.proofs.Registers.{Aligned, Ready, unread}
 
 -- a multiplier that is a register group is aligned
 abbrev pub AlignedMultiplier : Multiplier → Fields → Settings → Type 0
-AlignedMultiplier Vs1 f s = f .vs1 % s .lmul ≡ 0
+AlignedMultiplier Vs1 f s = Aligned s (f .vs1)
 AlignedMultiplier (Scalar x) f s = Unit {0}
 
 -- n bytes are 8n bits
@@ -59,7 +59,7 @@ write-does g at width v false room small = record {
 
 module _
     (which : Half) (m : Multiplier) (f : Fields) (s : Settings) (file : List ℕ) (ready : Ready (length file) s)
-    (vd-small : f .vd ≤ 31) (vd-aligned : f .vd % s .lmul ≡ 0) (vs2-aligned : f .vs2 % s .lmul ≡ 0) (m-aligned : AlignedMultiplier m f s)
+    (vd-small : f .vd ≤ 31) (vd-aligned : Aligned s (f .vd)) (vs2-aligned : Aligned s (f .vs2)) (m-aligned : AlignedMultiplier m f s)
     (unmasked : (f .vm ≡ 1 → ⊥) → 0 < f .vd)
   where
     abbrev place : ℕ → ℕ
@@ -73,10 +73,10 @@ module _
     apart i j h = omega (arith, suc-mul i (s .sew / 8), mul-le-mul-right (s .sew / 8) h)
 
     -- element i of a group is as at entry while only elements before i have been written
-    source : (r i : ℕ) (g : List ℕ) → r % s .lmul ≡ 0 → i < s .vl → Except file g (place (s .vstart)) (place i) → element s g r i ≡ element s file r i
+    source : (r i : ℕ) (g : List ℕ) → Aligned s r → i < s .vl → Except file g (place (s .vstart)) (place i) → element s g r i ≡ element s file r i
     source r i g al h x =
         readLe-same g file (elementAt (s .vlen) (s .sew) r i) (s .sew / 8)
-        (λ p w. x .same p (λ b. unread r (f .vd) (s .lmul) (registerBytes (s .vlen)) (i * (s .sew / 8)) (s .sew / 8) (s .vstart * (s .sew / 8)) p al vd-aligned (within i h) w b))
+        (λ p w. x .same p (λ b. unread r (f .vd) (groupRegisters (s .lmul)) (registerBytes (s .vlen)) (i * (s .sew / 8)) (s .sew / 8) (s .vstart * (s .sew / 8)) p al vd-aligned (within i h) w b))
 
     multiplier-same : (i : ℕ) (g : List ℕ) → i < s .vl → Except file g (place (s .vstart)) (place i) → multiplierOf m f s g i ≡ multiplierOf m f s file i
     multiplier-same i g h x = go m m-aligned

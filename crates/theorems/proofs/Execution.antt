@@ -37,7 +37,7 @@ use Rattle.vector_element.proofs.Steps.{none-left}
 use Rattle.theorems.specs.Execution.{firstUnit, pastUnit, activeUnit, unitBytes, unitPlace, unitOf, resultOf, Within, Done, WordDone}
 use Rattle.theorems.proofs.Elements.{AlignedMultiplier, elements-done}
 use Rattle.theorems.proofs.Groups.{vv-done, vs-done}
-use Rattle.theorems.proofs.Registers.{Ready, ready, Numbers, numbers, aligned}
+use Rattle.theorems.proofs.Registers.{Aligned, Ready, ready, Numbers, numbers, aligned}
 
 -- refusal 8: with vm 0, vd is not the mask register
 unmasked : (vm vd : ℕ) (rest : Bool) → vm ≤ 1 → eqb vm 0 && (eqb vd 0 || rest) ≡ false → (vm ≡ 1 → ⊥) → 0 < vd
@@ -47,7 +47,7 @@ unmasked vm vd rest small h ne =
 
 module _ (f : Fields) (s : Settings) (scalar : ℕ) (file : List ℕ) (bytes : (p : ℕ) → getD file p 0 < 256) (n : Numbers f) where
   -- refusal 6, by the groups that a kind has: vd; vd and vs2; all three
-  vd-of : (k : Kind) → Admitted (length file) k f s → f .vd % s .lmul ≡ 0
+  vd-of : (k : Kind) → Admitted (length file) k f s → Aligned s (f .vd)
   vd-of k a = aligned (s .lmul) (f .vd) (or-false (misaligned (s .lmul) (f .vd)) _ (a .not6) .0)
 
   rest-of : (k : Kind) → Admitted (length file) k f s

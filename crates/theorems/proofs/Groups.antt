@@ -14,7 +14,7 @@ use Rattle.gf128.proofs.Bytes.{beAt-lt, blockAt-putBlock, length-putBlock}
 use Rattle.gf128.proofs.Field.{product-lt}
 use Rattle.vector_registers.specs.declared.settings.Settings.{Settings}
 use Rattle.vector_word.specs.declared.Fields.{Fields}
-use Rattle.vector_registers.specs.Settings.{registerBytes, groupLength}
+use Rattle.vector_registers.specs.Settings.{registerBytes, groupRegisters, groupLength}
 use Rattle.vector_ghash.specs.declared.GhashMultiplier.{GhashMultiplier}
 use Rattle.vector_ghash.specs.declared.GhashMultiplier.the-variants.{YXorX, YAlone}
 use Rattle.vector_element.specs.Element.{blockPlace}
@@ -22,11 +22,11 @@ use Rattle.vector_ghash.specs.GhashWords.{group, multiplierOf, vvStep, vsStep, 
 use Rattle.theorems.specs.Execution.{Done}
 use Rattle.theorems.proofs.Bytes.{beAt-same, putBlock-other}
 use Rattle.theorems.proofs.Fold.{Except, Does, fold-done}
-use Rattle.theorems.proofs.Registers.{Ready, unread}
+use Rattle.theorems.proofs.Registers.{Aligned, Ready, unread}
 
 -- where X is used, its group is aligned
 abbrev pub AlignedMultiplier : GhashMultiplier → Fields → Settings → Type 0
-AlignedMultiplier YXorX f s = f .vs1 % s .lmul ≡ 0
+AlignedMultiplier YXorX f s = Aligned s (f .vs1)
 AlignedMultiplier YAlone f s = Unit {0}
 
 put-does : (g : List ℕ) (at v : ℕ) → at + 16 ≤ length g → v < 256 ^ 16 → Does g (putBlock g at v) at 16 true (λ h. blockAt h at) v
@@ -39,7 +39,7 @@ put-does g at v room small = record {
 
 module _
     (m : GhashMultiplier) (f : Fields) (s : Settings) (file : List ℕ) (bytes : (p : ℕ) → getD file p 0 < 256) (ready : Ready (length file) s)
-    (vd-small : f .vd ≤ 31) (vd-aligned : f .vd % s .lmul ≡ 0) (m-aligned : AlignedMultiplier m f s) (sew32 : s .sew ≡ 32)
+    (vd-small : f .vd ≤ 31) (vd-aligned : Aligned s (f .vd)) (m-aligned : AlignedMultiplier m f s) (sew32 : s .sew ≡ 32)
   where
     abbrev place : ℕ → ℕ
     place i = blockPlace (s .vlen) (f .vd) i
@@ -57,10 +57,10 @@ module _
     apart i j h = omega arith
 
     -- group i is as at entry while only groups before i have been written
-    source : (r i : ℕ) (g : List ℕ) → r % s .lmul ≡ 0 → i < s .vl / 4 → Except file g (place (s .vstart / 4)) (place i) → group s g r i ≡ group s file r i
+    source : (r i : ℕ) (g : List ℕ) → Aligned s r → i < s .vl / 4 → Except file g (place (s .vstart / 4)) (place i) → group s g r i ≡ group s file r i
     source r i g al h x =
         beAt-same g file (blockPlace (s .vlen) r i) 16
-        (λ p w. x .same p (λ b. unread r (f .vd) (s .lmul) (registerBytes (s .vlen)) (16 * i) 16 (16 * (s .vstart / 4)) p al vd-aligned (within i h) w b))
+        (λ p w. x .same p (λ b. unread r (f .vd) (groupRegisters (s .lmul)) (registerBytes (s .vlen)) (16 * i) 16 (16 * (s .vstart / 4)) p al vd-aligned (within i h) w b))
 
     multiplier-same : (i : ℕ) (g : List ℕ) → i < s .vl / 4 → Except file g (place (s .vstart / 4)) (place i) → multiplierOf m f s g i ≡ multiplierOf m f s file i
     multiplier-same i g h x = go m m-aligned
@@ -78,7 +78,7 @@ module _
         (sym (multiplier-same i g hi x))
         (put-does g (place i) (product (multiplierOf m f s file i) h) room (product-lt (multiplierOf m f s file i) h small))
 
-    pub vv-done : f .vs2 % s .lmul ≡ 0 → Done file (ghashVv m f s file) (s .vstart / 4) (s .vl / 4) 16 place (λ i. true)
+    pub vv-done : Aligned s (f .vs2) → Done file (ghashVv m f s file) (s .vstart / 4) (s .vl / 4) 16 place (λ i. true)
         (λ i g. group s g (f .vd) i) (λ i. product (multiplierOf m f s file i) (group s file (f .vs2) i))
     unfolding ghashVv vvStep
     vv-done vs2-aligned =

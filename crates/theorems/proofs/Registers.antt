@@ -4,7 +4,7 @@
 use mathlib.Core.Bool.{Bool, true, false, cond, not, _||_}
 use mathlib.Core.List.{List, [], _∷_}
 use mathlib.Core.Logic.{⊎-elim}
-use mathlib.Core.Path.{_≡_, sym, ap, subst}
+use mathlib.Core.Path.{_≡_, refl, sym, ap, subst}
 use Prim.Native.Nat.{ℕ, _+_, _*_, _/_, _%_, _^_, _<_, _≤_}
 use native.Mathlib.Decide.{decLe}
 use native.Mathlib.Nat.{le-div-iff-mul-le, div-add-mod', mul-le-mul-right, suc-mul, le-mul-of-pos-right, le-trans, lt-of-not-le, mul-left-comm, add-mul, mod-lt, zero-lt-suc, eq-or-lt-of-le, le-of-suc-le-suc, le-of-eq}
@@ -15,42 +15,43 @@ use Rattle.vector_registers.specs.declared.settings.Settings.{Settings}
 use Rattle.vector_word.specs.declared.Fields.{Fields}
 use Rattle.vector_word.specs.declared.Kind.{Kind}
 use Rattle.vector_word.specs.declared.Word.the-variants.{Known}
-use Rattle.vector_registers.specs.Settings.{applies1, applies3, registerBytes, fileBytes, groupLength, vlenAllowed, sewAllowed, lmulAllowed, vlmax, misaligned}
+use Rattle.vector_registers.specs.Settings.{applies1, applies3, registerBytes, fileBytes, groupRegisters, groupLength, timesLmul, vlenAllowed, sewAllowed, lmulAllowed, vlmax, misaligned}
 use Rattle.vector_word.specs.Word.{among, kinds, decode, isRow, row, fieldsOf}
-use Rattle.vector_registers.proofs.Allowed.{vlen-cases, lmul-cases}
+use Rattle.vector_registers.proofs.Allowed.{each-vlen, each-sew, each-group, times-lmul}
 use Rattle.vector_registers.proofs.Groups.{last-register, registers-within}
 use Rattle.vector_word.proofs.Tests.{or-false}
-use Rattle.vector_element.proofs.Sew.{sew-cases, sew-facts}
+use Rattle.vector_element.proofs.Sew.{sew-facts}
 use Rattle.theorems.specs.Execution.{Within}
 
 -- ---- what the settings tell
 
+-- a register group's number is a multiple of the group's size
+abbrev pub Aligned : Settings → ℕ → Type 0
+Aligned s r = r % groupRegisters (s .lmul) ≡ 0
+
 pub record Ready (fileLength : ℕ) (s : Settings) : Type 0 where
-  pub in-file : (r : ℕ) → r ≤ 31 → r % s .lmul ≡ 0 → r * registerBytes (s .vlen) + groupLength (s .vlen) (s .lmul) ≤ fileLength
-  pub lmul-positive : 0 < s .lmul
+  pub in-file : (r : ℕ) → r ≤ 31 → Aligned s r → r * registerBytes (s .vlen) + groupLength (s .vlen) (s .lmul) ≤ fileLength
   pub sew-bytes : s .sew ≡ 8 * (s .sew / 8)
   -- the elements fit the group, and their mask bits register 0
   pub elements-fit : s .vl * (s .sew / 8) ≤ groupLength (s .vlen) (s .lmul)
   pub masks-fit : s .vl ≤ 8 * registerBytes (s .vlen)
 
-eights : (sew : ℕ) → sewAllowed sew ≡ true → sew ≡ 8 * (sew / 8)
-eights sew h =
-    ⊎-elim (λ e. omega arith) (⊎-elim (λ e. omega arith) (⊎-elim (λ e. omega arith) (λ e. omega arith))) (sew-cases sew h)
+-- a number of bits that is allowed is one of whole bytes
+abbrev WholeBytes : ℕ → Type 0
+WholeBytes n = n ≡ 8 * (n / 8)
 
-vlen-eights : (vlen : ℕ) → vlenAllowed vlen ≡ true → vlen ≡ 8 * (vlen / 8)
-vlen-eights vlen h = ⊎-elim (λ e. omega arith) (⊎-elim (λ e. omega arith) (λ e. omega arith)) (vlen-cases vlen h)
+eights : (sew : ℕ) → sewAllowed sew ≡ true → WholeBytes sew
+eights sew = each-sew WholeBytes sew refl refl refl refl
 
-lmul-range : (lmul : ℕ) → lmulAllowed lmul ≡ true → (0 < lmul) × (lmul ≤ 8)
-lmul-range lmul h =
-    ⊎-elim (λ e. (omega arith, omega arith))
-    (⊎-elim (λ e. (omega arith, omega arith)) (⊎-elim (λ e. (omega arith, omega arith)) (λ e. (omega arith, omega arith)))) (lmul-cases lmul h)
+vlen-eights : (vlen : ℕ) → vlenAllowed vlen ≡ true → WholeBytes vlen
+vlen-eights vlen = each-vlen WholeBytes vlen refl refl refl
 
--- vl elements of w bytes, where vl is at most lmul · 8v / 8w
-fit : (vl lmul v w : ℕ) → 0 < w → vl ≤ lmul * (8 * v) / (8 * w) → vl * w ≤ lmul * v
+-- vl elements of w bytes, where vl is at most VLMAX for registers of v bytes
+fit : (vl lmul v w : ℕ) → 0 < w → vl ≤ timesLmul lmul (8 * v) / (8 * w) → vl * w ≤ groupRegisters lmul * v
 fit vl lmul v w hw h =
     let bytes : 0 < 8 * w = omega arith in
-    let many : vl * (8 * w) ≤ lmul * (8 * v) = le-div-iff-mul-le bytes .0 h in
-    omega (arith, mul-left-comm vl 8 w, mul-left-comm lmul 8 v)
+    let many : vl * (8 * w) ≤ timesLmul lmul (8 * v) = le-div-iff-mul-le bytes .0 h in
+    omega (arith, times-lmul lmul (8 * v), mul-left-comm vl 8 w, mul-left-comm (groupRegisters lmul) 8 v)
 
 pub ready : (fileLength : ℕ) (s : Settings) → applies1 fileLength (s .vlen) ≡ false → applies3 s ≡ false → Ready fileLength s
 ready fileLength s h1 h3 =
@@ -62,19 +63,19 @@ ready fileLength s h1 h3 =
     let p4 = or-false (not (lmulAllowed (s .lmul))) (ltb (vlmax (s .vlen) (s .sew) (s .lmul)) (s .vl)) (p3 .1) in
     let hl = not-false (lmulAllowed (s .lmul)) (p4 .0) in
     let most = ltb-false (vlmax (s .vlen) (s .sew) (s .lmul)) (s .vl) (p4 .1) in
-    let range = lmul-range (s .lmul) hl in
+    let eight : groupRegisters (s .lmul) ≤ 8 = each-group (λ (n : ℕ). n ≤ 8) (s .lmul) (omega arith) (omega arith) (omega arith) (omega arith) hl in
     let w8 = eights (s .sew) hs in
     let w : 0 < s .sew / 8 = omega (arith, sew-facts (s .sew) hs .positive) in
-    let fits : s .vl * (s .sew / 8) ≤ s .lmul * (s .vlen / 8) =
+    let fits : s .vl * (s .sew / 8) ≤ groupLength (s .vlen) (s .lmul) =
     fit (s .vl) (s .lmul) (s .vlen / 8) (s .sew / 8) w
-    (subst (λ (x : ℕ). s .vl ≤ s .lmul * x / (8 * (s .sew / 8))) (vlen-eights (s .vlen) hv) (subst (λ (x : ℕ). s .vl ≤ s .lmul * s .vlen / x) w8 most)) in
+    (subst (λ (x : ℕ). s .vl ≤ timesLmul (s .lmul) x / (8 * (s .sew / 8))) (vlen-eights (s .vlen) hv)
+    (subst (λ (x : ℕ). s .vl ≤ timesLmul (s .lmul) (s .vlen) / x) w8 most)) in
     record {
       in-file = λ r hr al. subst (λ (n : ℕ). r * registerBytes (s .vlen) + groupLength (s .vlen) (s .lmul) ≤ n) (sym hf)
           (registers-within (s .vlen) r (s .lmul) hv (last-register (s .lmul) r hl hr al));
-      lmul-positive = range .0;
       sew-bytes = w8;
       elements-fit = fits;
-      masks-fit = le-trans (le-mul-of-pos-right (s .vl) w) (le-trans fits (mul-le-mul-right (s .vlen / 8) (range .1)));
+      masks-fit = le-trans (le-mul-of-pos-right (s .vl) w) (le-trans fits (mul-le-mul-right (s .vlen / 8) eight));
     }
 
 -- ---- what the fields tell
@@ -97,27 +98,27 @@ numbers word {k} {f} e =
     subst Numbers (among-fields kinds word e)
     (record { vm-small = le-of-suc-le-suc (mod-lt (word / 2 ^ 25) (zero-lt-suc 1)); vd-small = le-of-suc-le-suc (mod-lt (word / 2 ^ 7) (zero-lt-suc 31)) })
 
-pub aligned : (lmul r : ℕ) → misaligned lmul r ≡ false → r % lmul ≡ 0
-aligned lmul r h = eqb-true (r % lmul) 0 (not-false (eqb (r % lmul) 0) h)
+pub aligned : (lmul r : ℕ) → misaligned lmul r ≡ false → r % groupRegisters lmul ≡ 0
+aligned lmul r h = eqb-true (r % groupRegisters lmul) 0 (not-false (eqb (r % groupRegisters lmul) 0) h)
 
--- ---- two groups
+-- ---- two groups of n registers
 
--- the next multiple of lmul is lmul further
-next-group : (lmul a b : ℕ) → a % lmul ≡ 0 → b % lmul ≡ 0 → a < b → a + lmul ≤ b
-next-group lmul a b ha hb h = go (decLe (b / lmul) (a / lmul))
+-- the next multiple of n is n further
+next-group : (n a b : ℕ) → a % n ≡ 0 → b % n ≡ 0 → a < b → a + n ≤ b
+next-group n a b ha hb h = go (decLe (b / n) (a / n))
   where
-    go : Dec (b / lmul ≤ a / lmul) → a + lmul ≤ b
-    go (yes l) = absurd (omega (arith, mul-le-mul-right lmul l, div-add-mod' a lmul, div-add-mod' b lmul))
-    go (no l) = omega (arith, mul-le-mul-right lmul (lt-of-not-le l), suc-mul (a / lmul) lmul, div-add-mod' a lmul, div-add-mod' b lmul)
+    go : Dec (b / n ≤ a / n) → a + n ≤ b
+    go (yes l) = absurd (omega (arith, mul-le-mul-right n l, div-add-mod' a n, div-add-mod' b n))
+    go (no l) = omega (arith, mul-le-mul-right n (lt-of-not-le l), suc-mul (a / n) n, div-add-mod' a n, div-add-mod' b n)
 
 -- a unit of x + width bytes at most lies in its group; no byte of unit x of a group at r is one of the group at vd before unit x
-pub unread : (r vd lmul v x width low p : ℕ) → r % lmul ≡ 0 → vd % lmul ≡ 0 → x + width ≤ lmul * v
+pub unread : (r vd n v x width low p : ℕ) → r % n ≡ 0 → vd % n ≡ 0 → x + width ≤ n * v
     → Within (r * v + x) width p → (vd * v + low ≤ p) × (p < vd * v + x) → ⊥
-unread r vd lmul v x width low p hr hd fits w b = go (decLe r vd)
+unread r vd n v x width low p hr hd fits w b = go (decLe r vd)
   where
     -- the group at a ends where the group at c starts, or before
-    before : (a c : ℕ) → a % lmul ≡ 0 → c % lmul ≡ 0 → a < c → a * v + lmul * v ≤ c * v
-    before a c ha hc l = le-trans (le-of-eq (sym (add-mul a lmul v))) (mul-le-mul-right v (next-group lmul a c ha hc l))
+    before : (a c : ℕ) → a % n ≡ 0 → c % n ≡ 0 → a < c → a * v + n * v ≤ c * v
+    before a c ha hc l = le-trans (le-of-eq (sym (add-mul a n v))) (mul-le-mul-right v (next-group n a c ha hc l))
 
     go : Dec (r ≤ vd) → ⊥
     go (yes h) = ⊎-elim (λ e. omega (arith, ap (λ (q : ℕ). q * v) e)) (λ l. omega (arith, before r vd hr hd l)) (eq-or-lt-of-le h)
