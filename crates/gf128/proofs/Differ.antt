@@ -11,7 +11,7 @@ use lib.ListN.{length, getD}
 use lib.Seq.{ext-getD}
 use Rattle.gf128.specs.Differ.{DifferOnce}
 use Rattle.gf128.specs.Hash.{next, over, blocksFrom, blocksOf, lengthBlock, messageOf, ghash}
-use Rattle.gf128.proofs.Bytes.{beAt-lt}
+use Rattle.octets.proofs.BigEndian.{beAt-lt}
 use Rattle.gf128.proofs.Hash.{over-append}
 use Rattle.gf128.proofs.Solve.{next-lt, next-cancel, next-cancel-block}
 

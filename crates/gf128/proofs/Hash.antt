@@ -9,7 +9,8 @@ use native.Mathlib.Nat.{zero-add, add-zero}
 use native.Mathlib.Omega.{arith}
 use lib.ListN.{length, getD, length-append, List·getD-append}
 use lib.Seq.{getD-append-add}
-use Rattle.gf128.specs.Bytes.{beAt, blockAt}
+use Rattle.octets.specs.BigEndian.{beAt}
+use Rattle.gf128.specs.Bytes.{blockAt}
 use Rattle.gf128.specs.Hash.{next, over, blocksFrom, blocksOf, lengthBlock, messageOf, ghash}
 
 -- ---- bytes that agree

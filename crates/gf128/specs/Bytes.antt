@@ -1,21 +1,12 @@
--- Bytes and numbers, big-endian. A block is 16 bytes; bytes past the end of a list count as zeros.
+-- A block in its 16 bytes, the highest byte first; bytes past the end of a list count as zeros.
 -- Assumes nothing.
-use Prim.Native.Nat.{ℕ, zero, suc, _+_, _*_, _/_, _%_}
+use Prim.Native.Nat.{ℕ, _+_}
 use mathlib.Core.Bool.{cond}
-use mathlib.Core.List.{List, [], _∷_, _++_}
+use mathlib.Core.List.{List}
 use lib.Dec.{leb}
-use lib.ListN.{length, getD}
+use lib.ListN.{length}
 use lib.Seq.{sets}
-
--- the number whose n bytes stand from `at` on, the highest byte first
-unfoldable pub beAt : List ℕ → ℕ → ℕ → ℕ
-beAt s at zero = 0
-beAt s at (suc n) = beAt s at n * 256 + getD s (at + n) 0
-
--- the n bytes of a number, the highest first
-unfoldable pub beBytes : ℕ → ℕ → List ℕ
-beBytes zero v = []
-beBytes (suc n) v = beBytes n (v / 256) ++ (v % 256 ∷ [])
+use Rattle.octets.specs.BigEndian.{beAt, beBytes}
 
 -- the block in the 16 bytes from `at` on
 abbrev pub blockAt : List ℕ → ℕ → ℕ

@@ -7,7 +7,7 @@ use crate::data_file::read;
 use crate::pieces::Mix;
 use crate::tally::report;
 use ghash_block::block::block_at;
-use vector_element::element::read_le;
+use octets::read_le;
 
 // The records that agree so far, and where the next one starts.
 struct Place {

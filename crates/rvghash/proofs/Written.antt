@@ -14,7 +14,7 @@ use Rattle.ghash_plain.specs.declared.Answer.{Answer}
 use Rattle.gf128.specs.Bytes.{blockBytes, putBlock}
 use Rattle.gf128.specs.Entries.{outNumber, outBytes}
 use Rattle.gf128.specs.Running.{State, finishRefusal, afterFinish, finishBlock}
-use Rattle.gf128.proofs.Bytes.{length-beBytes}
+use Rattle.octets.proofs.BigEndian.{length-beBytes}
 use Rattle.ghash_state.specs.State.{view}
 use Rattle.ghash_running.specs.Answers.{Feeds, Finishes}
 use Rattle.ghash_state.specs.declared.Running.{Running}

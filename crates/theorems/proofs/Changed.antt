@@ -9,11 +9,12 @@ use borrow.Author.Tests.{eq-eqb, le-ltb}
 use lib.Dec.{lit<}
 use lib.ListN.{length, getD, replicate, length-replicate}
 use lib.Seq.{sets}
-use Rattle.gf128.specs.Bytes.{beAt, beBytes, blockAt, blockBytes}
+use Rattle.octets.specs.BigEndian.{beAt, beBytes}
+use Rattle.octets.proofs.BigEndian.{beAt-lt, beAt-sets, length-beBytes}
+use Rattle.gf128.specs.Bytes.{blockAt, blockBytes}
 use Rattle.gf128.specs.Entries.{hashBlock, outBytes}
 use Rattle.gf128.specs.Hash.{over, blocksOf, lengthBlock, ghash, limit}
 use Rattle.gf128.specs.Pieces.{joined, runOf}
-use Rattle.gf128.proofs.Bytes.{beAt-lt, beAt-sets, length-beBytes}
 use Rattle.gf128.proofs.Differ.{ghash-last, one-changed-ghash}
 use Rattle.gf128.proofs.Hash.{be-same}
 use Rattle.gf128.proofs.Running.{as-whole}

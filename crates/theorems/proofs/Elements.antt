@@ -19,10 +19,11 @@ use Rattle.vector_element.specs.declared.clmul.Half.the-variants.{Low, High}
 use Rattle.vector_clmul.specs.declared.Multiplier.{Multiplier}
 use Rattle.vector_clmul.specs.declared.Multiplier.the-variants.{Vs1, Scalar}
 use Rattle.vector_element.specs.Clmul.{halfOf, clmul64}
-use Rattle.vector_element.specs.Element.{readLe, writeLe, elementAt, maskBit}
+use Rattle.octets.specs.LittleEndian.{readLe, writeLe}
+use Rattle.vector_element.specs.Element.{elementAt, maskBit}
 use Rattle.vector_clmul.specs.Carryless.{active, element, multiplierOf, carrylessResult, carrylessStep, carryless}
 use Rattle.theorems.specs.Execution.{Done}
-use Rattle.theorems.proofs.Bytes.{readLe-same, writeLe-length, writeLe-other, writeLe-read}
+use Rattle.octets.proofs.LittleEndian.{readLe-same, writeLe-length, writeLe-other, writeLe-read}
 use Rattle.theorems.proofs.Fold.{Except, Does, fold-done}
 use Rattle.theorems.proofs.Registers.{Aligned, Ready, unread}
 

@@ -6,7 +6,8 @@ use mathlib.Core.List.{List, [], _∷_, _++_}
 use Prim.Native.Nat.{ℕ, _+_, _-_, _/_}
 use lib.Dec.{T, eqb, ltb, eqb→eq}
 use lib.ListN.{length, getD}
-use Rattle.gf128.specs.Bytes.{beAt, beBytes, putBlock}
+use Rattle.octets.specs.BigEndian.{beAt, beBytes}
+use Rattle.gf128.specs.Bytes.{putBlock}
 use Rattle.gf128.specs.Degree.{highest, degreeOf, degreeRefusal}
 use Rattle.gf128.specs.Field.{coeffOf, product}
 use Rattle.gf128.specs.Hash.{limit}
@@ -22,7 +23,8 @@ use Rattle.vector_word.specs.declared.Word.the-variants.{Known, Unknown}
 use Rattle.vector_word.specs.Word.{decode}
 use Rattle.vector_refusal.specs.Refusal.{refusalOf, refusalOfKnown}
 use Rattle.vector_element.specs.Clmul.{clmul, clmul64}
-use Rattle.vector_element.specs.Element.{readLe, writeLe, maskBit, blockPlace}
+use Rattle.octets.specs.LittleEndian.{readLe, writeLe}
+use Rattle.vector_element.specs.Element.{maskBit, blockPlace}
 use Rattle.vector_clmul.specs.Carryless.{carrylessResult, carrylessStep, carryless}
 use Rattle.vector_element.specs.Steps.{steps}
 use Rattle.vector_ghash.specs.declared.GhashMultiplier.{GhashMultiplier}

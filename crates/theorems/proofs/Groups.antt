@@ -10,7 +10,8 @@ use lib.Bits.{bitXor}
 use lib.ListN.{length, getD}
 use Rattle.gf128.specs.Bytes.{blockAt, putBlock}
 use Rattle.gf128.specs.Field.{product}
-use Rattle.gf128.proofs.Bytes.{beAt-lt, blockAt-putBlock, length-putBlock}
+use Rattle.octets.proofs.BigEndian.{beAt-lt, beAt-same}
+use Rattle.gf128.proofs.Bytes.{blockAt-putBlock, length-putBlock, putBlock-other}
 use Rattle.gf128.proofs.Field.{product-lt}
 use Rattle.vector_registers.specs.declared.settings.Settings.{Settings}
 use Rattle.vector_word.specs.declared.Fields.{Fields}
@@ -20,7 +21,6 @@ use Rattle.vector_ghash.specs.declared.GhashMultiplier.the-variants.{YXorX, YAl
 use Rattle.vector_element.specs.Element.{blockPlace}
 use Rattle.vector_ghash.specs.GhashWords.{group, multiplierOf, vvStep, vsStep, ghashVv, ghashVs}
 use Rattle.theorems.specs.Execution.{Done}
-use Rattle.theorems.proofs.Bytes.{beAt-same, putBlock-other}
 use Rattle.theorems.proofs.Fold.{Except, Does, fold-done}
 use Rattle.theorems.proofs.Registers.{Aligned, Ready, unread}
 

@@ -1,4 +1,3 @@
-pub mod Bytes
 pub mod Changed
 pub mod Elements
 pub mod Examples

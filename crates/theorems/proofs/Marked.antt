@@ -10,7 +10,7 @@ use lib.Bits.{bitXor}
 use lib.Dec.{T, eqb, eqb→eq, lit<}
 use lib.Pow.{pow-pos}
 use lib.ListN.{getD}
-use Rattle.gf128.specs.Bytes.{beAt}
+use Rattle.octets.specs.BigEndian.{beAt}
 use Rattle.gf128.specs.Hash.{next, blocksFrom, blocksOf, lengthBlock, messageOf}
 use Rattle.gf128.specs.StepBack.{IsBlock, StepsBack}
 use Rattle.gf128.proofs.Computed.{quickSteps, quickProduct, quickOver, quickGhash, quick-product, quick-ghash}

@@ -15,12 +15,12 @@ use lib.Dec.{eqb, lit<}
 use lib.ListN.{getD, set}
 use lib.Pow.{pow-add, pow-pos, shl-lt, shr-shr, field, mod-mod-pow}
 use lib.Seq.{sets}
-use Rattle.gf128.specs.Bytes.{beAt, beBytes}
+use Rattle.octets.specs.BigEndian.{beAt, beBytes}
 use Rattle.gf128.specs.Field.{coeffOf, timesXOf, shiftedOf, sumOf, productOf, product, reduction}
-use Rattle.gf128.proofs.Bytes.{beAt-split, beAt-lt, sets-split}
+use Rattle.octets.proofs.BigEndian.{beAt-split, beAt-lt, sets-split}
 use Rattle.gf128.proofs.Places.{digit-ind, digit-map, mod2-lt, coeffOf-lt, shiftedOf-lt, reduction-lt}
 use Rattle.gf128.proofs.Xor.{xor-half, xor-odd}
-use Rattle.vector_element.specs.Element.{readLe, writeLe}
+use Rattle.octets.specs.LittleEndian.{readLe, writeLe}
 use Rattle.theorems.specs.Pseudocode.{_!_, «bit_to_bool», _xor_, shl, turns, foreach, reversed, brev8Of, brev8, ZH, forBit, multiplied}
 use Rattle.theorems.proofs.Elements.{bytes-bits}
 

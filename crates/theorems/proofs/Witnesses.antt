@@ -12,7 +12,8 @@ use lib.Arith.{digits-div, digits-mod}
 use lib.Dec.{eqb, lit<, lit≤}
 use lib.ListN.{length, getD, set, replicate, length-replicate, getD-replicate, length-append, length-set, List·getD-append}
 use lib.Seq.{getD-set-same, getD-set-other}
-use Rattle.gf128.specs.Bytes.{beAt, blockAt}
+use Rattle.octets.specs.BigEndian.{beAt}
+use Rattle.gf128.specs.Bytes.{blockAt}
 use Rattle.gf128.specs.Differ.{DifferOnce}
 use Rattle.gf128.specs.Hash.{blocksFrom, blocksOf}
 use Rattle.gf128.proofs.Hash.{be-same}

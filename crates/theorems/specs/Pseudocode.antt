@@ -18,7 +18,7 @@ use Rattle.vector_word.specs.declared.Word.the-variants.{Known}
 use Rattle.vector_word.specs.Word.{decode}
 use Rattle.vector_word.specs.Kinds.{isGhash}
 use Rattle.vector_refusal.specs.Refusal.{refusalOf}
-use Rattle.vector_element.specs.Element.{readLe, writeLe}
+use Rattle.octets.specs.LittleEndian.{readLe, writeLe}
 use Rattle.vector_clmul.specs.Carryless.{active}
 use Rattle.vector_execute.specs.Execute.{executed}
 use Rattle.theorems.specs.Changed.{AreBytes}

@@ -9,7 +9,8 @@ use Rattle.vector_registers.specs.declared.settings.Settings.{Settings}
 use Rattle.vector_word.specs.declared.Fields.{Fields}
 use Rattle.vector_element.specs.declared.clmul.Half.{Half}
 use Rattle.vector_clmul.specs.declared.Multiplier.{Multiplier}
-use Rattle.vector_element.specs.Element.{writeLe, elementAt}
+use Rattle.octets.specs.LittleEndian.{writeLe}
+use Rattle.vector_element.specs.Element.{elementAt}
 use Rattle.vector_clmul.specs.Carryless.{active, carrylessResult, carrylessStep}
 
 module _ (which : Half) (m : Multiplier) (f : Fields) (s : Settings) (i : ℕ) (file : List ℕ) where

@@ -10,7 +10,8 @@ use Rattle.vector_clmul.specs.declared.Multiplier.the-variants.{Vs1, Sca
 use Rattle.vector_registers.specs.declared.settings.Settings.{Settings}
 use Rattle.vector_word.specs.declared.Fields.{Fields}
 use Rattle.vector_element.specs.Clmul.{clmul64, halfOf}
-use Rattle.vector_element.specs.Element.{readLe, writeLe, elementAt, maskBit}
+use Rattle.octets.specs.LittleEndian.{readLe, writeLe}
+use Rattle.vector_element.specs.Element.{elementAt, maskBit}
 use Rattle.vector_element.specs.Steps.{steps}
 
 -- an element is active where vm is 1 or its mask bit is 1

@@ -4,14 +4,14 @@ ghost use mathlib.Core.Bool.{true};
 ghost use mathlib.Core.Path.{_≡_};
 ghost use Rattle.vector_registers.specs.Settings.{sewAllowed};
 ghost use Rattle.vector_clmul.specs.Carryless.{active, element, scalarOf, multiplierOf, carrylessResult, carrylessStep, carryless};
+use octets::read_le;
+use octets::write_le;
 use vector_element::clmul::Half;
 use vector_element::clmul::clmul64;
 use vector_element::clmul::half_of;
 use vector_element::clmul::low_bits;
 use vector_element::element::element_at;
 use vector_element::element::mask_bit;
-use vector_element::element::read_le;
-use vector_element::element::write_le;
 use vector_registers::settings::Settings;
 use vector_word::Fields;
 

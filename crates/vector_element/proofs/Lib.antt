@@ -1,5 +1,5 @@
 pub mod Bilinear
+pub mod Bounds
 pub mod Carryless
-pub mod LittleEndian
 pub mod Sew
 pub mod Steps

@@ -7,8 +7,8 @@ use denote.Ref.{now}
 use borrow.Author.Tests.{le-leb, lt-leb}
 use lib.ListN.{length}
 use lib.Seq.{sets}
-use Rattle.gf128.specs.Bytes.{beBytes}
-use Rattle.gf128.proofs.Bytes.{sets-join}
+use Rattle.octets.specs.BigEndian.{beBytes}
+use Rattle.octets.proofs.BigEndian.{sets-join}
 use borrow.Author.Needs.{needs}
 use Rattle.ghash_block.proofs.block.put_block.Statement.{statement}
 use Rattle.ghash_block.proofs.block.put_block.Tie as tie
@@ -26,14 +26,14 @@ returns-2 c =
     let a = c .before .before .before .args in
     rw (lt-leb (a .at + 16) (length (now (a .s))) (omega arith))
 
-store-requires : tie.Need-store-requires
-store-requires c κs = search needs
+write-be8-requires : tie.Need-write-be8-requires
+write-be8-requires c κs = search needs
 
-add-store : tie.Need-add-store
-add-store c = search needs
+add-write-be8 : tie.Need-add-write-be8
+add-write-be8 c = search needs
 
-store-requires-2 : tie.Need-store-requires-2
-store-requires-2 c κs = search needs
+write-be8-requires-2 : tie.Need-write-be8-requires-2
+write-be8-requires-2 c κs = search needs
 
 same-length : tie.Need-same-length
 same-length c = search needs
@@ -42,8 +42,8 @@ returns-3 : tie.Need-returns-3
 returns-3 c =
     let a = c .before .before .before .before .before .before .before .before .before .before .before .args in
     rw (le-leb (a .at + 16) (length (now (a .s))) (omega arith))
-    (c .before .before .store2 .ensures
-    ∙ ap (λ (l : List ℕ). sets l (a .at + 8) (beBytes 8 (a .b .1))) (c .before .before .before .before .before .before .store .ensures)
+    (c .before .before .write-be82 .ensures
+    ∙ ap (λ (l : List ℕ). sets l (a .at + 8) (beBytes 8 (a .b .1))) (c .before .before .before .before .before .before .write-be8 .ensures)
     ∙ sets-join (now (a .s)) (a .at) 8 8 (a .b .0) (a .b .1) (omega arith))
 
 pub put-block-spec : {M : Type 1} → statement M
@@ -53,8 +53,8 @@ put-block-spec =
     returns
     sub-if2
     returns-2
-    store-requires
-    add-store
-    store-requires-2
+    write-be8-requires
+    add-write-be8
+    write-be8-requires-2
     same-length
     returns-3)

@@ -1,0 +1,86 @@
+-- Numbers and their bytes, the lowest first: a read and a write by one more byte, past the end, their bounds, and a write read again.
+-- Main results: `read-lt`, `readLe-same`, `writeLe-other`, `writeLe-read`.
+-- Assumes nothing.
+use mathlib.Core.Path.{_≡_, refl, sym, ap, ap₂, _∙_}
+use mathlib.Core.List.{List}
+use Prim.Native.Nat.{ℕ, zero, suc, _+_, _-_, _*_, _/_, _%_, _^_, _<_, _≤_}
+use native.Mathlib.Nat.{zero-lt-suc, lt-of-lt-of-le, le-of-eq, pow-suc, mod-one}
+use native.Mathlib.Omega.{arith}
+use lib.Arith.{digits-lt}
+use lib.ListN.{length, getD, set, length-set, List·getD-eq-default}
+use lib.Seq.{set-out, getD-set-same, getD-set-other}
+use Rattle.octets.specs.Bytes.{AreBytes}
+use Rattle.octets.specs.LittleEndian.{readLe, writeLe}
+use Rattle.octets.proofs.BigEndian.{last-byte}
+
+-- ---- past the end
+
+pub read-past : (s : List ℕ) (at n : ℕ) → length s ≤ at → readLe s at n ≡ 0
+unfolding readLe
+read-past s at zero h = refl
+read-past s at (suc n) h =
+    ap₂ (λ (x y : ℕ). x * 256 + y) (read-past s (at + 1) n (omega arith)) (List·getD-eq-default s 0 h)
+
+pub write-past : (n : ℕ) (s : List ℕ) (at v : ℕ) → length s ≤ at → writeLe n s at v ≡ s
+unfolding writeLe
+write-past zero s at v h = refl
+write-past (suc n) s at v h =
+    ap (λ (f : List ℕ). writeLe n f (at + 1) (v / 256)) (set-out s at (v % 256) h) ∙ write-past n s (at + 1) (v / 256) (omega arith)
+
+-- ---- one more byte
+
+pub read-more : (s : List ℕ) (at n j : ℕ) → j < n
+    → readLe s (at + j) (n - j) ≡ readLe s (at + (j + 1)) (n - (j + 1)) * 256 + getD s (at + j) 0
+unfolding readLe
+read-more s at n j h =
+    let e : n - j ≡ suc (n - (j + 1)) = omega arith in
+    let next : at + j + 1 ≡ at + (j + 1) = omega arith in
+    ap (λ (k : ℕ). readLe s (at + j) k) e
+    ∙ ap (λ (p : ℕ). readLe s p (n - (j + 1)) * 256 + getD s (at + j) 0) next
+
+pub write-more : (s : List ℕ) (at n j v : ℕ) → j < n
+    → writeLe (n - j) s (at + j) v ≡ writeLe (n - (j + 1)) (set s (at + j) (v % 256)) (at + (j + 1)) (v / 256)
+unfolding writeLe
+write-more s at n j v h =
+    let e : n - j ≡ suc (n - (j + 1)) = omega arith in
+    let next : at + j + 1 ≡ at + (j + 1) = omega arith in
+    ap (λ (k : ℕ). writeLe k s (at + j) v) e
+    ∙ ap (λ (p : ℕ). writeLe (n - (j + 1)) (set s (at + j) (v % 256)) p (v / 256)) next
+
+-- ---- bounds
+
+pub read-lt : (s : List ℕ) (at n : ℕ) → AreBytes s → readLe s at n < 256 ^ n
+unfolding readLe
+read-lt s at zero b = zero-lt-suc 0
+read-lt s at (suc n) b =
+    lt-of-lt-of-le (digits-lt (read-lt s (at + 1) n b) (b at)) (le-of-eq (sym (pow-suc 256 n)))
+
+-- ---- what is read, and what a write changes
+
+pub readLe-same : (g h : List ℕ) (at n : ℕ) → ((p : ℕ) → (at ≤ p) × (p < at + n) → getD g p 0 ≡ getD h p 0) → readLe g at n ≡ readLe h at n
+unfolding readLe
+readLe-same g h at zero e = refl
+readLe-same g h at (suc n) e =
+    ap₂ (λ (x y : ℕ). x * 256 + y) (readLe-same g h (at + 1) n (λ p w. e p (omega arith, omega arith))) (e at (omega arith, omega arith))
+
+pub writeLe-length : (n : ℕ) (s : List ℕ) (at v : ℕ) → length (writeLe n s at v) ≡ length s
+unfolding writeLe
+writeLe-length zero s at v = refl
+writeLe-length (suc n) s at v = writeLe-length n (set s at (v % 256)) (at + 1) (v / 256) ∙ length-set s at (v % 256)
+
+pub writeLe-other : (n : ℕ) (s : List ℕ) (at v p : ℕ) → ((at ≤ p) × (p < at + n) → ⊥) → getD (writeLe n s at v) p 0 ≡ getD s p 0
+unfolding writeLe
+writeLe-other zero s at v p h = refl
+writeLe-other (suc n) s at v p h =
+    writeLe-other n (set s at (v % 256)) (at + 1) (v / 256) p (λ w. h (omega arith, omega arith))
+    ∙ getD-set-other s at p (v % 256) 0 (λ e. h (omega arith, omega arith))
+
+pub writeLe-read : (n : ℕ) (s : List ℕ) (at v : ℕ) → at + n ≤ length s → readLe (writeLe n s at v) at n ≡ v % 256 ^ n
+unfolding readLe writeLe
+writeLe-read zero s at v h = sym (mod-one v)
+writeLe-read (suc n) s at v h =
+    let rest = set s at (v % 256) in
+    let room = length-set s at (v % 256) in
+    ap₂ (λ (x y : ℕ). x * 256 + y) (writeLe-read n rest (at + 1) (v / 256) (omega arith))
+    (writeLe-other n rest (at + 1) (v / 256) at (λ w. omega arith) ∙ getD-set-same s at (v % 256) 0 (omega arith))
+    ∙ sym (last-byte n v)
