@@ -1,5 +1,5 @@
 -- Blocks and their bytes: a block that was written is read again, and what a write leaves; each coefficient is a bit of a byte.
--- Main results: `blockAt-putBlock`, `putBlock-other`, `coefficient-byte`.
+-- Main results: `blockAt-putBlock`, `putBlock-other`, `coefficients-are-bits`.
 -- Assumes nothing.
 use mathlib.Core.Path.{_≡_, refl, sym, ap, _∙_}
 use mathlib.Core.List.{List}
@@ -14,10 +14,10 @@ use lib.Dec.{leb}
 use borrow.Author.Tests.{le-leb}
 use mathlib.Core.Bool.{Bool, true, false, cond}
 use Rattle.octets.specs.BigEndian.{beAt}
-use Rattle.octets.specs.Bytes.{AreBytes}
 use Rattle.octets.proofs.BigEndian.{beAt-byte, beAt-sets, length-beBytes, sets-other}
 use Rattle.gf128.specs.Bytes.{blockAt, blockBytes, putBlock}
-use Rattle.gf128.specs.Field.{coeffOf, coefficient}
+use Rattle.gf128.specs.Field.{coeffOf}
+use Rattle.gf128.specs.Places.{CoefficientsAreBits}
 
 pub blockAt-putBlock : (s : List ℕ) (at v : ℕ) → at + 16 ≤ length s → v < 256 ^ 16 → blockAt (putBlock s at v) at ≡ v
 blockAt-putBlock s at v h b = rw (le-leb (at + 16) (length s) h) (beAt-sets s at 16 v h ∙ mod-eq-of-lt b)
@@ -48,10 +48,9 @@ low-bit : (x e j : ℕ) → x % 2 ^ (suc e + j) / 2 ^ j % 2 ≡ x / 2 ^ j % 2
 low-bit x e j =
     ap (λ (y : ℕ). y % 2) (field x (suc e) j ∙ ap (λ (y : ℕ). x / 2 ^ j % 2 ^ y) (sym (add-one e))) ∙ mod-mod-pow (x / 2 ^ j) e 1
 
-pub coefficient-byte : (s : List ℕ) → AreBytes s → (at k : ℕ) → k < 128
-    → coefficient (blockAt s at) k ≡ getD s (at + k / 8) 0 / 2 ^ (7 - k % 8) % 2
+pub coefficients-are-bits : CoefficientsAreBits
 unfolding coeffOf
-coefficient-byte s h at k l =
+coefficients-are-bits s h at k l =
     let i = k / 8 in
     let d = 15 - i in
     let j = 7 - k % 8 in

@@ -9,19 +9,27 @@ use lib.Bits.{bitXor, xor-comm}
 use Rattle.gf128.specs.Field.{coeffOf, timesXOf, shiftedOf, sumOf, productOf, product, reduction}
 use Rattle.gf128.specs.Hash.{next, over, messageOf, ghash}
 
+-- times x
+unfoldable pub quickXOf : ℕ → ℕ → ℕ
+quickXOf R v = bitXor (v % 2 * R) (v / 2)
+
+pub quickX-timesX : (R v : ℕ) → quickXOf R v ≡ timesXOf R v
+unfolding quickXOf timesXOf
+quickX-timesX R v = xor-comm (v % 2 * R) (v / 2)
+
 -- the loop's last d steps, from V and Z on
 unfoldable pub quickSteps : ℕ → ℕ → ℕ → ℕ → ℕ → ℕ
 quickSteps R u zero v z = z
-quickSteps R u (suc d) v z = quickSteps R u d (bitXor (v % 2 * R) (v / 2)) (bitXor (u / 2 ^ d % 2 * v) z)
+quickSteps R u (suc d) v z = quickSteps R u d (quickXOf R v) (bitXor (u / 2 ^ d % 2 * v) z)
 
 module _ (m R u h : ℕ) where
   steps-left : (d k : ℕ) → k + d ≡ suc m → quickSteps R u d (shiftedOf R h k) (sumOf m R u h k) ≡ productOf m R u h
-  unfolding quickSteps productOf sumOf shiftedOf timesXOf coeffOf
+  unfolding quickSteps productOf sumOf shiftedOf coeffOf
   steps-left zero k e = ap (sumOf m R u h) (sym (add-zero k) ∙ e)
   steps-left (suc d) k e =
       let p : d ≡ m - k = omega arith in
       ap₂ (quickSteps R u d)
-      (xor-comm (shiftedOf R h k % 2 * R) (shiftedOf R h k / 2))
+      (quickX-timesX R (shiftedOf R h k))
       (xor-comm (u / 2 ^ d % 2 * shiftedOf R h k) (sumOf m R u h k)
       ∙ ap (λ (x : ℕ). bitXor (sumOf m R u h k) (u / 2 ^ x % 2 * shiftedOf R h k)) p)
       ∙ steps-left d (suc k) (omega arith)

@@ -3,17 +3,18 @@
 -- Assumes nothing.
 use mathlib.Core.Path.{_≡_, sym, ap, ap₂, _∙_}
 use mathlib.Core.Logic.{_≢_}
-use mathlib.Core.List.{List, [], _∷_, _++_, append-assoc}
+use mathlib.Core.List.{List, [], _∷_, _++_}
 use Prim.Native.Nat.{ℕ, zero, suc, _+_, _*_, _/_, _^_, _<_}
 use native.Mathlib.Nat.{suc-inj, suc-ne-zero, le-of-suc-le-suc, not-suc-le-zero}
 use lib.Pow.{pow-pos}
 use lib.ListN.{length, getD}
 use lib.Seq.{ext-getD}
+use Rattle.octets.specs.Bytes.{AreBytes}
 use Rattle.gf128.specs.Differ.{DifferOnce}
-use Rattle.gf128.specs.Hash.{next, over, blocksFrom, blocksOf, lengthBlock, messageOf, ghash}
+use Rattle.gf128.specs.Hash.{next, over, blocksFrom, blocksOf, lengthBlock, ghash}
 use Rattle.octets.proofs.BigEndian.{beAt-lt}
-use Rattle.gf128.proofs.Hash.{over-append}
-use Rattle.gf128.proofs.Solve.{next-lt, next-cancel, next-cancel-block}
+use Rattle.gf128.proofs.Hash.{over-append, ghash-parts}
+use Rattle.gf128.proofs.Next.{next-lt, next-cancel, next-cancel-block}
 
 -- ---- lists of blocks
 
@@ -46,7 +47,7 @@ module _ (h : ℕ) (hh : h < 2 ^ 128) (h0 : h ≢ 0) where
 
 -- ---- the blocks of a list of bytes
 
-module _ (s : List ℕ) (bytes : (i : ℕ) → getD s i 0 < 256) where
+module _ (s : List ℕ) (bytes : AreBytes s) where
   blocksFrom-lt : (i n k : ℕ) → getD (blocksFrom s i n) k 0 < 2 ^ 128
   unfolding blocksFrom
   blocksFrom-lt i zero k = pow-pos 128
@@ -62,28 +63,24 @@ append-lt n [] ys bx by k = by k
 append-lt n (x ∷ xs) ys bx by zero = bx 0
 append-lt n (x ∷ xs) ys bx by (suc k) = append-lt n xs ys (λ j. bx (suc j)) by k
 
--- a message's hash is one more step, with the length block
-pub ghash-last : (h : ℕ) (a c : List ℕ) → ghash h a c ≡ next h (over h 0 (blocksOf a ++ blocksOf c)) (lengthBlock (length a) (length c))
-unfolding ghash messageOf over
-ghash-last h a c =
-    ap (over h 0) (sym (append-assoc (blocksOf a) (blocksOf c) (lengthBlock (length a) (length c) ∷ [])))
-    ∙ over-append h 0 (blocksOf a ++ blocksOf c) (lengthBlock (length a) (length c) ∷ [])
-
 over-lt : (h y : ℕ) (xs : List ℕ) → h < 2 ^ 128 → y < 2 ^ 128 → over h y xs < 2 ^ 128
 unfolding over
 over-lt h y [] hh hy = hy
 over-lt h y (x ∷ xs) hh hy = over-lt h (next h y x) xs hh (next-lt h y x hh)
 
 pub one-changed-ghash : (h : ℕ) → h < 2 ^ 128 → h ≢ 0 → (a c a′ c′ : List ℕ)
-    → ((i : ℕ) → getD a i 0 < 256) → ((i : ℕ) → getD c i 0 < 256) → ((i : ℕ) → getD a′ i 0 < 256) → ((i : ℕ) → getD c′ i 0 < 256)
+    → AreBytes a → AreBytes c → AreBytes a′ → AreBytes c′
     → length a ≡ length a′ → length c ≡ length c′ → DifferOnce (blocksOf a ++ blocksOf c) (blocksOf a′ ++ blocksOf c′)
     → ghash h a c ≢ ghash h a′ c′
 one-changed-ghash h hh h0 a c a′ c′ ba bc ba′ bc′ la lc d e =
     one-changed-block h hh h0 xs ys (append-lt (2 ^ 128) (blocksOf a) (blocksOf c) (blocksOf-lt a ba) (blocksOf-lt c bc))
     (append-lt (2 ^ 128) (blocksOf a′) (blocksOf c′) (blocksOf-lt a′ ba′) (blocksOf-lt c′ bc′)) d
     (next-cancel h (over h 0 xs) (over h 0 ys) (lengthBlock (length a) (length c)) hh h0 (over-lt h 0 xs hh (pow-pos 128)) (over-lt h 0 ys hh (pow-pos 128))
-    (sym (ghash-last h a c) ∙ e ∙ ghash-last h a′ c′ ∙ ap₂ (λ (m n : ℕ). next h (over h 0 ys) (lengthBlock m n)) (sym la) (sym lc)))
+    (sym (last a c) ∙ e ∙ last a′ c′ ∙ ap₂ (λ (m n : ℕ). next h (over h 0 ys) (lengthBlock m n)) (sym la) (sym lc)))
   where
+    last : (a c : List ℕ) → ghash h a c ≡ next h (over h 0 (blocksOf a ++ blocksOf c)) (lengthBlock (length a) (length c))
+    last a c = ghash-parts h a c ∙ ap (λ (y : ℕ). next h y (lengthBlock (length a) (length c))) (sym (over-append h 0 (blocksOf a) (blocksOf c)))
+
     xs : List ℕ
     xs = blocksOf a ++ blocksOf c
 

@@ -7,9 +7,9 @@ use mathlib.Core.Logic.{_≢_}
 use Prim.Native.Nat.{ℕ, _^_, _<_}
 use lib.Bits.{bitXor, xor-lt, xor-self}
 use lib.Dec.{lit<}
-use Rattle.gf128.specs.Field.{timesX, shifted, product, reduction, one}
+use Rattle.gf128.specs.Field.{product, reduction, one}
 use Rattle.gf128.proofs.Xor.{xor-zero-eq}
-use Rattle.gf128.proofs.Places.{reduction-lt, timesXOf-lt, shiftedOf-lt, productOf-lt, productOf-zero-left, productOf-zero-right, productOf-xor-left, productOf-xor-right, productOf-timesX}
+use Rattle.gf128.proofs.Places.{reduction-lt, productOf-lt, productOf-zero-right, productOf-xor-left, productOf-xor-right}
 use Rattle.gf128.proofs.Nibbles.{productOf-one-left}
 use Rattle.gf128.proofs.Ring.{productOf-one-right, productOf-comm, productOf-assoc}
 use Rattle.gf128.proofs.Frobenius.{squares-back, own-squares}
@@ -20,19 +20,10 @@ use Rattle.gf128.proofs.Inverse as Inverse
 pub one-lt : one < 2 ^ 128
 one-lt = lit< tt
 
-pub timesX-lt : (v : ℕ) → v < 2 ^ 128 → timesX v < 2 ^ 128
-timesX-lt = timesXOf-lt 127 reduction reduction-lt
-
-pub shifted-lt : (h k : ℕ) → h < 2 ^ 128 → shifted h k < 2 ^ 128
-shifted-lt = shiftedOf-lt 127 reduction reduction-lt
-
 pub product-lt : (u h : ℕ) → h < 2 ^ 128 → product u h < 2 ^ 128
 product-lt = productOf-lt 127 reduction reduction-lt
 
 -- ---- a commutative ring, with xor as its sum
-
-pub product-zero-left : (h : ℕ) → product 0 h ≡ 0
-product-zero-left = productOf-zero-left 127 reduction
 
 pub product-zero-right : (u : ℕ) → product u 0 ≡ 0
 product-zero-right = productOf-zero-right 127 reduction
@@ -42,9 +33,6 @@ product-xor-left = productOf-xor-left 127 reduction
 
 pub product-xor-right : (u a b : ℕ) → product u (bitXor a b) ≡ bitXor (product u a) (product u b)
 product-xor-right = productOf-xor-right 127 reduction
-
-pub product-timesX : (u h : ℕ) → product u (timesX h) ≡ timesX (product u h)
-product-timesX = productOf-timesX 127 reduction
 
 pub product-one-left : (h : ℕ) → product one h ≡ h
 product-one-left = productOf-one-left 127 reduction

@@ -9,14 +9,16 @@ use Prim.Native.Nat.{ℕ, zero, suc, _+_, _-_, _*_, _/_, _%_, _^_, _<_, _≤_}
 use native.Mathlib.Nat.{div-one, zero-mul, one-mul, add-zero, suc-add, add-suc, mul-comm, le-of-suc-le-suc, not-suc-le-zero}
 use native.Mathlib.Numerals.{one-add}
 use native.Mathlib.Omega.{arith}
-use lib.Bits.{bitXor, xor-block, xor-comm, xor-self, xor-shr, xor-mod}
+use lib.Bits.{bitXor, xor-block, xor-self, xor-shr, xor-mod}
 use lib.Dec.{T, eqb, eqb→eq, lit<}
 use lib.Pow.{pow-add, shr-shr, shl-shr, shr-lt, split}
 use Rattle.gf128.specs.Field.{timesXOf, timesX, shiftedOf, shifted, reduction, one}
+use Rattle.gf128.proofs.Computed.{quickXOf, quickX-timesX}
 use Rattle.gf128.proofs.Xor.{xor-half, xor-odd, xor-shl, xor-swap4}
-use Rattle.gf128.proofs.Places.{reduction-lt, and-left, and-right, digit-ind, digit-xor, mod2-lt, shiftedOf-add, shiftedOf-timesX}
+use Rattle.gf128.proofs.Places.{reduction-lt, digit-ind, digit-xor, mod2-lt, shiftedOf-add, shiftedOf-timesX}
 use Rattle.gf128.proofs.Nibbles.{shiftedOf-one, productOf-place}
 use Rattle.gf128.proofs.Ring.{additive-same}
+use Rattle.gf128.proofs.Tests.{and-left, and-right}
 use Rattle.gf128.proofs.Squaring.{squareOf, squaresOf, square-xor, squares-lt, squares-identity}
 
 abbrev square : ℕ → ℕ
@@ -96,13 +98,8 @@ quick-additive =
 
 -- ---- a test at every power of x and its square
 
--- times x with the small operand of xor in front, since xor computes along its first
-quickX : ℕ → ℕ
-quickX v = bitXor (v % 2 * reduction) (v / 2)
-
-quickX-timesX : (v : ℕ) → quickX v ≡ timesX v
-unfolding quickX timesXOf
-quickX-timesX v = xor-comm (v % 2 * reduction) (v / 2)
+abbrev quickX : ℕ → ℕ
+quickX = quickXOf reduction
 
 along : ℕ → (ℕ → ℕ → Bool) → ℕ → ℕ → Bool
 along zero p v w = true
@@ -114,7 +111,7 @@ along-at zero p v w t k h = absurd (not-suc-le-zero h)
 along-at (suc n) p v w t zero h = subst (λ (x : ℕ). T (p x w)) (sym (div-one v)) (and-left (p v w) (along n p (v / 2) (quickX (quickX w))) t)
 along-at (suc n) p v w t (suc k) h =
     subst₂ (λ (x y : ℕ). T (p x y)) (shr-shr v 1 k ∙ ap (λ (x : ℕ). v / 2 ^ x) (one-add k))
-    (ap (λ (x : ℕ). shifted x (k + k)) (quickX-timesX (quickX w) ∙ ap timesX (quickX-timesX w))
+    (ap (λ (x : ℕ). shifted x (k + k)) (quickX-timesX reduction (quickX w) ∙ ap timesX (quickX-timesX reduction w))
     ∙ shiftedOf-timesX reduction (timesX w) (k + k)
     ∙ ap timesX (shiftedOf-timesX reduction w (k + k))
     ∙ ap (shifted w) (sym (suc-add k (suc k) ∙ ap suc (add-suc k k))))
@@ -138,7 +135,7 @@ at-powers p t d l =
 -- ---- the first fact: the quick squaring agrees with the squaring at the powers of x
 
 quick-powers : (d : ℕ) → d ≤ 127 → quick (2 ^ d) ≡ square (2 ^ d)
-unfolding along quick evens odds low spread picked carries quickX
+unfolding along quick evens odds low spread picked carries quickXOf
 quick-powers d l = eqb→eq (quick (2 ^ d)) (square (2 ^ d)) (at-powers (λ v w. eqb (quick v) w) tt d l)
 
 quick-square : (u : ℕ) → u < 2 ^ 128 → quick u ≡ square u
@@ -218,7 +215,7 @@ solve-zero : solve 0 ≡ 0
 solve-zero = solve-additive 0 0 ∙ xor-self (solve 0)
 
 solve-powers : (d : ℕ) → d ≤ 127 → solve (bitXor (2 ^ d) (square (2 ^ d))) ≡ 2 ^ d % 2 ^ 127
-unfolding along quickX solve solved picked
+unfolding along quickXOf solve solved picked
 solve-powers d l =
     eqb→eq (solve (bitXor (2 ^ d) (square (2 ^ d)))) (2 ^ d % 2 ^ 127) (at-powers (λ v w. eqb (solve (bitXor v w)) (v % 2 ^ 127)) tt d l)
 

@@ -1,6 +1,7 @@
 pub mod Bytes
 pub mod Chain
 pub mod Computed
+pub mod Cuts
 pub mod Degree
 pub mod Differ
 pub mod Division
@@ -8,13 +9,14 @@ pub mod Field
 pub mod Frobenius
 pub mod Hash
 pub mod Inverse
+pub mod Next
 pub mod Nibbles
 pub mod Parts
 pub mod Places
 pub mod Ring
 pub mod Running
-pub mod Solve
 pub mod Squaring
+pub mod Standard
 pub mod StepBack
 pub mod Stores
 pub mod Tests

@@ -1,18 +1,19 @@
 -- Places of a block: bounds, and what xor and times x do to coefficients, sums and products.
--- Main results for readers, at GHASH's numbers: `timesX-place`, `timesX-place-0` (document 01's step of V). The laws over any last
--- place m and constant R stand first.
+-- Main result for readers, at GHASH's numbers: `times-x-by-places` (document 01's step of V). The laws over any last place m and
+-- constant R stand first.
 -- Assumes nothing.
 use mathlib.Core.Path.{_≡_, refl, sym, ap, ap₂, _∙_, subst}
-use mathlib.Core.Bool.{Bool, true, false, cond, _&&_, _||_}
-use mathlib.Core.Logic.{⊎-elim}
+use mathlib.Core.Bool.{Bool, true, false, cond, _&&_}
 use Prim.Native.Nat.{ℕ, zero, suc, _+_, _-_, _*_, _/_, _%_, _^_, _<_}
-use native.Mathlib.Nat.{zero-mul, one-mul, mul-zero, zero-div, div-one, mod-lt, zero-lt-suc, lt-of-le-of-lt, div-le-self, add-zero, add-suc, sub-self, sub-zero, div-eq-of-lt, eq-or-lt-of-le, le-of-suc-le-suc, not-suc-le-zero}
+use native.Mathlib.Nat.{zero-mul, one-mul, mul-zero, zero-div, div-one, mod-lt, zero-lt-suc, lt-of-le-of-lt, div-le-self, add-zero, add-suc, sub-self, sub-zero, div-eq-of-lt, le-of-suc-le-suc, not-suc-le-zero}
 use native.Mathlib.Numerals.{add-one}
 use native.Mathlib.Omega.{arith}
 use lib.Bits.{bitXor, xor-lt, xor-shr, xor-zero-r, xor-self}
 use lib.Pow.{pow-pos, shr-shr, shr-lt}
-use lib.Dec.{T, eqb, eqb→eq, lit<}
-use Rattle.gf128.specs.Field.{coeffOf, timesXOf, shiftedOf, sumOf, productOf, coefficient, timesX, reduction}
+use lib.Dec.{eqb, eqb→eq, lit<}
+use Rattle.gf128.specs.Field.{coeffOf, timesXOf, shiftedOf, sumOf, productOf, coefficient, reduction}
+use Rattle.gf128.specs.Places.{flips, TimesXByPlaces}
+use Rattle.gf128.proofs.Tests.{allBelow-at}
 use Rattle.gf128.proofs.Xor.{xor-odd, xor-half, xor-swap4}
 
 -- ---- a digit, 0 or 1, scales a number
@@ -145,9 +146,6 @@ module _ (m R : ℕ) where
       (digit-map f (fx 0 0 ∙ xor-self (f 0)) (coeffOf m u k) (shiftedOf R h k) (coeffOf-lt m u k)
       ∙ ap (λ (x : ℕ). coeffOf m u k * x) (shiftedOf-map R f ft h k))
 
-  pub sumOf-timesX : (u h k : ℕ) → sumOf m R u (timesXOf R h) k ≡ timesXOf R (sumOf m R u h k)
-  sumOf-timesX u h k = sym (sumOf-map (timesXOf R) (timesXOf-xor R) (λ v. refl) u h k)
-
   pub sumOf-zero-left : (h k : ℕ) → sumOf m R 0 h k ≡ 0
   unfolding sumOf
   sumOf-zero-left h zero = refl
@@ -240,43 +238,34 @@ timesXOf-place-0 m R v hv =
     (digit-map (λ x. coeffOf m x 0) (coeffOf-zero m 0) (v % 2) R (mod2-lt v)
     ∙ ap (λ (x : ℕ). x * coeffOf m R 0) (sym (coeffOf-last m v)))
 
--- the test p passes at every number below n
-abbrev pub allBelow : ℕ → (ℕ → Bool) → Bool
-allBelow zero p = true
-allBelow (suc n) p = p n && allBelow n p
-
-pub and-left : (a b : Bool) → T (a && b) → T a
-and-left true b t = tt
-and-left false b t = t
-
-pub and-right : (a b : Bool) → T (a && b) → T b
-and-right true b t = t
-and-right false b t = absurd t
-
-pub allBelow-at : (n : ℕ) (p : ℕ → Bool) → T (allBelow n p) → (k : ℕ) → k < n → T (p k)
-allBelow-at zero p t k h = absurd (not-suc-le-zero h)
-allBelow-at (suc n) p t k h =
-    ⊎-elim (λ e. subst (λ (x : ℕ). T (p x)) (sym e) (and-left (p n) (allBelow n p) t))
-    (λ l. allBelow-at n p (and-right (p n) (allBelow n p) t) k l)
-    (eq-or-lt-of-le (le-of-suc-le-suc h))
+-- ---- GHASH's
 
 pub reduction-lt : reduction < 2 ^ 128
 reduction-lt = lit< tt
 
--- GHASH's places, in document 01's words: those that are flipped if the coefficient from place 127 was 1
-abbrev pub flips : ℕ → ℕ
-flips k = cond (eqb k 0 || (eqb k 1 || (eqb k 2 || eqb k 7))) 1 0
-
-reduction-place : (k : ℕ) → k < 128 → coefficient reduction k ≡ flips k
+reduction-place : (k : ℕ) → k < 128 → coefficient reduction k ≡ cond (flips k) 1 0
 unfolding coeffOf
-reduction-place k h = eqb→eq (coefficient reduction k) (flips k) (allBelow-at 128 (λ k. eqb (coefficient reduction k) (flips k)) tt k h)
+reduction-place k h =
+    eqb→eq (coefficient reduction k) (cond (flips k) 1 0) (allBelow-at 128 (λ k. eqb (coefficient reduction k) (cond (flips k) 1 0)) tt k h)
 
--- every coefficient moves one place up and is flipped at places 0, 1, 2 and 7 if the one from place 127 was 1
-pub timesX-place : (v k : ℕ) → k < 127 → coefficient (timesX v) (suc k) ≡ bitXor (coefficient v k) (coefficient v 127 * flips (suc k))
-timesX-place v k h =
-    timesXOf-place 127 reduction v k h
-    ∙ ap (λ (x : ℕ). bitXor (coefficient v k) (coefficient v 127 * x)) (reduction-place (suc k) (omega arith))
+-- a digit a, flipped if c is 1 and the place is one that flips
+flipped : (a c : ℕ) (f : Bool) → a < 2 → c < 2 → bitXor a (c * cond f 1 0) ≡ cond (eqb c 1 && f) (1 - a) a
+flipped a c f ha hc =
+    digit-ind (λ c. bitXor a (c * cond f 1 0) ≡ cond (eqb c 1 && f) (1 - a) a)
+    (ap (bitXor a) (zero-mul (cond f 1 0)) ∙ xor-zero-r a)
+    (digit-ind (λ a. bitXor a (1 * cond f 1 0) ≡ cond f (1 - a) a) (go 0 f refl) (go 1 f refl) a ha)
+    c hc
+  where
+    go : (a : ℕ) (f : Bool) → bitXor a 1 ≡ 1 - a → bitXor a (1 * cond f 1 0) ≡ cond f (1 - a) a
+    go a true e = e
+    go a false e = xor-zero-r a
 
--- place 0 gets 0 and is flipped likewise
-pub timesX-place-0 : (v : ℕ) → v < 2 ^ 128 → coefficient (timesX v) 0 ≡ coefficient v 127 * flips 0
-timesX-place-0 v hv = timesXOf-place-0 127 reduction v hv ∙ ap (λ (x : ℕ). coefficient v 127 * x) (reduction-place 0 (lit< tt))
+pub times-x-by-places : TimesXByPlaces
+times-x-by-places v zero hv h =
+    timesXOf-place-0 127 reduction v hv
+    ∙ ap (λ (x : ℕ). coefficient v 127 * x) (reduction-place 0 h)
+    ∙ flipped 0 (coefficient v 127) (flips 0) (lit< tt) (coeffOf-lt 127 v 127)
+times-x-by-places v (suc k) hv h =
+    timesXOf-place 127 reduction v k (le-of-suc-le-suc h)
+    ∙ ap (λ (x : ℕ). bitXor (coefficient v k) (coefficient v 127 * x)) (reduction-place (suc k) h)
+    ∙ flipped (coefficient v k) (coefficient v 127) (flips (suc k)) (coeffOf-lt 127 v k) (coeffOf-lt 127 v 127)

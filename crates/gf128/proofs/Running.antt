@@ -1,5 +1,5 @@
 -- The running hash: states that are not malformed, calls that are taken, and messages in pieces.
--- Main results: `any-pieces` (however A and C are cut, every call is taken and the finish gives the hash of the whole),
+-- Main results: `any-pieces`, `pieces-as-whole` (however A and C are cut, every call is taken and the finish gives the hash of the whole),
 -- `fed-a-sound`, `fed-c-sound`, `finished-sound` (no call leaves a malformed state).
 -- Assumes nothing.
 use mathlib.Core.Path.{_≡_, refl, sym, ap, ap₂, _∙_}
@@ -13,10 +13,9 @@ use borrow.Author.Tests.{eq-eqb, ne-eqb, le-ltb, ltb-false, eqb-true, eqb-false,
 use lib.Dec.{eqb, ltb}
 use lib.ListN.{length, drop, replicate, length-append, replicate-append-replicate}
 use Rattle.gf128.specs.Bytes.{blockAt}
-use Rattle.gf128.specs.Entries.{hashBlock}
 use Rattle.gf128.specs.Hash.{next, over, blocksOf, lengthBlock, ghash, limit}
 use Rattle.gf128.specs.Running.{State, Part, noBytes, fresh, allZero, openBytes, malformed, feedARefusal, feedCRefusal, finishRefusal, pushed, closed, fedA, fedC, startedC, finished, afterFeedA, afterFeedC, afterFinish}
-use Rattle.gf128.specs.Pieces.{joined, fedAll, answers, fedAllA, fedAllC, answersA, answersC, runOf, HashOfWhole}
+use Rattle.gf128.specs.Pieces.{joined, fedAll, answers, fedAllA, fedAllC, answersA, answersC, runOf, AnyPieces, PiecesAsWhole}
 use Rattle.gf128.proofs.Hash.{blocksOf-empty, ghash-parts}
 use Rattle.gf128.proofs.Parts.{part, partAt, part-fresh, pushed-part, pushed-fresh, pushed-zeros, closed-part, closed-zeros, zeros-drop}
 
@@ -311,28 +310,27 @@ module _ (key : List ℕ) (k : length key ≡ 16) where
         }),
       )
 
-  pub any-pieces : (ps qs : List (List ℕ)) → length (joined ps) ≤ limit → length (joined qs) ≤ limit → HashOfWhole key ps qs
-  unfolding runOf
-  any-pieces ps qs ra rc =
-      let f : fresh ≡ stateA h [] = ap (λ (p : Part). state p 0 0 0) (sym (part-fresh h 0)) in
-      let r = row (feedARefusal key) (afterFeedA key) (stateA h) step-a ps [] ra in
-      let a : fedAllA key fresh ps ≡ stateA h (joined ps) = ap (λ (s : State). fedAllA key s ps) f ∙ r .0 in
-      let c = row-c (joined ps) qs ra rc in
-      let s : State = fedAllC key (fedAllA key fresh ps) qs in
-      let e : End s (joined ps) (joined qs) = rw a (c .1) in
-      record {
-        taken =
-            ap₂ {A = List ℕ} {B = List ℕ} {C = List ℕ} (λ x y. x ++ y)
-            (ap (λ (z : State). answersA key z ps) f ∙ r .1)
-            (ap₂ {A = List ℕ} {B = ℕ} {C = List ℕ} (λ x y. x ++ (y ∷ [])) (ap (λ (z : State). answersC key z qs) a ∙ c .0) (e .answer)
-            ∙ replicate-append-replicate (length qs) 1 0)
-            ∙ replicate-append-replicate (length ps) (length qs + 1) 0;
-        hash = rw (eq-eqb (finishRefusal key s) 0 (e .answer)) (ap (λ (z : State). z .y) (e .ends));
-        end = rw (eq-eqb (finishRefusal key s) 0 (e .answer)) (e .ends);
-      }
+pub any-pieces : AnyPieces
+unfolding runOf
+any-pieces key ps qs k ra rc =
+    let h : ℕ = blockAt key 0 in
+    let f : fresh ≡ stateA h [] = ap (λ (p : Part). state p 0 0 0) (sym (part-fresh h 0)) in
+    let r = row (feedARefusal key) (afterFeedA key) (stateA h) (step-a key k) ps [] ra in
+    let a : fedAllA key fresh ps ≡ stateA h (joined ps) = ap (λ (s : State). fedAllA key s ps) f ∙ r .0 in
+    let c = row-c key k (joined ps) qs ra rc in
+    let s : State = fedAllC key (fedAllA key fresh ps) qs in
+    let e : End key k s (joined ps) (joined qs) = rw a (c .1) in
+    record {
+      taken =
+          ap₂ {A = List ℕ} {B = List ℕ} {C = List ℕ} (λ x y. x ++ y)
+          (ap (λ (z : State). answersA key z ps) f ∙ r .1)
+          (ap₂ {A = List ℕ} {B = ℕ} {C = List ℕ} (λ x y. x ++ (y ∷ [])) (ap (λ (z : State). answersC key z qs) a ∙ c .0) (e .answer)
+          ∙ replicate-append-replicate (length qs) 1 0)
+          ∙ replicate-append-replicate (length ps) (length qs + 1) 0;
+      hash = rw (eq-eqb (finishRefusal key s) 0 (e .answer)) (ap (λ (z : State). z .y) (e .ends));
+      end = rw (eq-eqb (finishRefusal key s) 0 (e .answer)) (e .ends);
+    }
 
-  -- so the finish gives the block that the call for a whole A and C returns
-  pub as-whole : (ps qs : List (List ℕ)) → length (joined ps) ≤ limit → length (joined qs) ≤ limit
-      → runOf key ps qs .block ≡ hashBlock key (joined ps) (joined qs)
-  as-whole ps qs ra rc =
-      rw (eq-eqb (length key) 16 k, le-ltb limit (length (joined ps)) ra, le-ltb limit (length (joined qs)) rc) (any-pieces ps qs ra rc .hash)
+pub pieces-as-whole : PiecesAsWhole
+pieces-as-whole key ps qs k ra rc =
+    rw (eq-eqb (length key) 16 k, le-ltb limit (length (joined ps)) ra, le-ltb limit (length (joined qs)) rc) (any-pieces key ps qs k ra rc .hash)

@@ -1,5 +1,6 @@
--- The step back's answers are document 01's, each exactly when it is so. Main results: with an inverse of the key `steps-back` (0 with Y1
--- times the inverse, xor X); for the zero key `steps-none` (12) and `steps-many` (13). Assumes nothing.
+-- The step back's answers are document 01's, each exactly when it is so. Main results: for a key that is not zero `steps-to` (0 with any
+-- Y that leads there) and `steps-back` (Y1 times the key's inverse, xor X, does); for the zero key `steps-none` (12) and `steps-many` (13).
+-- Assumes nothing.
 use mathlib.Core.Path.{_≡_, refl, sym, ap, _∙_, subst}
 use mathlib.Core.Bool.{not}
 use mathlib.Core.Logic.{_≢_}
@@ -11,61 +12,55 @@ use Rattle.gf128.specs.Field.{product, one}
 use Rattle.gf128.specs.Hash.{next}
 use Rattle.gf128.specs.StepBack.{IsBlock, Leads, StepsBack}
 use Rattle.gf128.proofs.Xor.{xor-cancel-right}
-use Rattle.gf128.proofs.Field.{product-lt, product-zero-right, product-one-right, product-assoc}
-use Rattle.gf128.proofs.Solve.{next-cancel}
+use Rattle.gf128.proofs.Field.{product-lt, product-one-right, product-assoc}
+use Rattle.gf128.proofs.Next.{next-zero, next-cancel}
 
 -- two numerals
 differ : (a b : ℕ) → T (not (eqb a b)) → a ≢ b
 differ a b t e = T-not (eqb a b) t (subst (λ (x : ℕ). T (eqb a x)) e (eqb-refl a))
 
--- ---- a key with an inverse i
+-- ---- a key that is not zero
 
-module _ (h x y1 i : ℕ) (hh : h < 2 ^ 128) (hx : x < 2 ^ 128) (h1 : y1 < 2 ^ 128) (hi : i < 2 ^ 128)
-    (inverse : product i h ≡ one) (h0 : h ≢ 0) where
-  found : ℕ
-  found = bitXor (product y1 i) x
-
-  found-lt : found < 2 ^ 128
-  unfolding found
-  found-lt = xor-lt 128 (product y1 i) x (product-lt y1 i hi) hx
-
-  found-leads : Leads h x y1 found
-  unfolding found
-  found-leads =
-      ap (λ (v : ℕ). product v h) (xor-cancel-right (product y1 i) x)
-      ∙ product-assoc y1 i h hi hh
-      ∙ ap (product y1) inverse
-      ∙ product-one-right y1 h1
-
-  found-only : (z : ℕ) → IsBlock z → Leads h x y1 z → z ≡ found
+-- whatever leads there is the only one that does
+module _ (h x y1 y : ℕ) (hh : h < 2 ^ 128) (h0 : h ≢ 0) (hy : IsBlock y) (leads : Leads h x y1 y) where
+  only : (z : ℕ) → IsBlock z → Leads h x y1 z → z ≡ y
   unfolding next
-  found-only z hz l = next-cancel h z found x hh h0 hz found-lt (l ∙ sym found-leads)
+  only z hz l = next-cancel h z y x hh h0 hz hy (l ∙ sym leads)
 
-  pub steps-back : StepsBack h x y1 0 (bitXor (product y1 i) x)
-  unfolding found
-  steps-back =
+  pub steps-to : StepsBack h x y1 0 y
+  steps-to =
       record {
-        earlier = λ y hy. (
+        earlier = λ w hw. (
           λ p. record {
-            leads = subst (λ (v : ℕ). Leads h x y1 v) (p .1) found-leads;
-            noOther = λ z hz n l. n (found-only z hz l ∙ p .1);
+            leads = subst (λ (v : ℕ). Leads h x y1 v) (p .1) leads;
+            noOther = λ z hz n l. n (only z hz l ∙ p .1);
           },
-          λ o. (refl, sym (found-only y hy (o .leads))),
+          λ o. (refl, sym (only w hw (o .leads))),
         );
-        none = (λ e. absurd (differ 0 12 tt e), λ n. absurd (n .noBlock found found-lt found-leads));
+        none = (λ e. absurd (differ 0 12 tt e), λ n. absurd (n .noBlock y hy leads));
         many = (
           λ e. absurd (differ 0 13 tt e),
-          λ m. absurd (m .differ
-              (found-only (m .first) (m .firstBlock) (m .firstLeads) ∙ sym (found-only (m .second) (m .secondBlock) (m .secondLeads)))),
+          λ m. absurd (m .differ (only (m .first) (m .firstBlock) (m .firstLeads) ∙ sym (only (m .second) (m .secondBlock) (m .secondLeads)))),
         );
         zeroed = λ n. absurd (n refl);
       }
+
+-- Y1 times the key's inverse i, xor X, does
+pub steps-back : (h x y1 i : ℕ) → h < 2 ^ 128 → x < 2 ^ 128 → y1 < 2 ^ 128 → i < 2 ^ 128 → product i h ≡ one → h ≢ 0
+    → StepsBack h x y1 0 (bitXor (product y1 i) x)
+steps-back h x y1 i hh hx h1 hi inverse h0 =
+    steps-to h x y1 (bitXor (product y1 i) x) hh h0 (xor-lt 128 (product y1 i) x (product-lt y1 i hi) hx)
+    (ap (λ (v : ℕ). product v h) (xor-cancel-right (product y1 i) x)
+    ∙ product-assoc y1 i h hi hh
+    ∙ ap (product y1) inverse
+    ∙ product-one-right y1 h1)
 
 -- ---- the zero key
 
 module _ (h x y1 : ℕ) (h0 : h ≡ 0) where
   to-zero : (z : ℕ) → product (bitXor z x) h ≡ 0
-  to-zero z = ap (product (bitXor z x)) h0 ∙ product-zero-right (bitXor z x)
+  unfolding next
+  to-zero z = ap (product (bitXor z x)) h0 ∙ next-zero z x
 
   pub steps-none : y1 ≢ 0 → StepsBack h x y1 12 0
   steps-none n1 =

@@ -2,7 +2,7 @@
 -- A block is a number below 2 ^ 128, its 16 bytes read big-endian, so coefficient 0 is its highest binary digit.
 -- Each definition is over the last place `m` and the reduction constant `R`, and GHASH's follows: 127 and 0xE1 · 2 ^ 120.
 -- Assumes nothing.
-use Prim.Native.Nat.{ℕ, zero, suc, _+_, _-_, _*_, _/_, _%_, _^_}
+use Prim.Native.Nat.{ℕ, zero, suc, _-_, _*_, _/_, _%_, _^_}
 use lib.Bits.{bitXor}
 
 -- coefficient k of u, where m is the last place

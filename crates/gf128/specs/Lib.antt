@@ -5,5 +5,7 @@ pub mod Entries
 pub mod Field
 pub mod Hash
 pub mod Pieces
+pub mod Places
 pub mod Running
+pub mod Standard
 pub mod StepBack

@@ -1,12 +1,13 @@
 -- A whole message in pieces, fed to a fresh running hash under one key: document 01's demand 2.
 -- The calls of the plain and of the fast path are proved equal to these definitions, so each call of a run may take either path.
 -- Assumes nothing.
-use Prim.Native.Nat.{ℕ, _+_}
+use Prim.Native.Nat.{ℕ, _+_, _≤_}
 use mathlib.Core.Path.{_≡_}
 use mathlib.Core.List.{List, [], _∷_, _++_}
 use lib.ListN.{length, replicate}
 use Rattle.gf128.specs.Bytes.{blockAt}
-use Rattle.gf128.specs.Hash.{ghash}
+use Rattle.gf128.specs.Entries.{hashBlock}
+use Rattle.gf128.specs.Hash.{ghash, limit}
 use Rattle.gf128.specs.Running.{State, noBytes, fresh, feedARefusal, feedCRefusal, finishRefusal, afterFeedA, afterFeedC, afterFinish, finishBlock}
 
 -- the whole that pieces make up
@@ -59,3 +60,14 @@ pub record HashOfWhole (key : List ℕ) (ps qs : List (List ℕ)) : Type 0 where
   pub hash : runOf key ps qs .block ≡ ghash (blockAt key 0) (joined ps) (joined qs)
   pub end : runOf key ps qs .state
       ≡ record { y = ghash (blockAt key 0) (joined ps) (joined qs); block = noBytes; countA = length (joined ps); countC = length (joined qs); phase = 2 }
+
+-- any cut of an A and a C within the limit into any pieces, empty ones too, perhaps none, gives the hash of the whole
+abbrev pub AnyPieces : Type 0
+AnyPieces =
+    (key : List ℕ) (ps qs : List (List ℕ)) → length key ≡ 16 → length (joined ps) ≤ limit → length (joined qs) ≤ limit → HashOfWhole key ps qs
+
+-- so the finish gives the block that the call for a whole A and C returns
+abbrev pub PiecesAsWhole : Type 0
+PiecesAsWhole =
+    (key : List ℕ) (ps qs : List (List ℕ)) → length key ≡ 16 → length (joined ps) ≤ limit → length (joined qs) ≤ limit
+    → runOf key ps qs .block ≡ hashBlock key (joined ps) (joined qs)

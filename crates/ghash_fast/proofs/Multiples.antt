@@ -15,9 +15,9 @@ use lib.ListN.{length, getD}
 use lib.Seq.{sets, length-sets}
 use Rattle.gf128.specs.Field.{timesX, shiftedOf, reduction, shifted, product}
 use Rattle.gf128.proofs.Nibbles.{shiftedOf-multiple, productOf-place, productOf-digits}
-use Rattle.gf128.proofs.Places.{and-left, and-right, shiftedOf-add, shiftedOf-xor, productOf-zero-left}
+use Rattle.gf128.proofs.Places.{shiftedOf-add, shiftedOf-xor, productOf-zero-left}
 use Rattle.gf128.proofs.Stores.{sets-at, sets-below, sets-above}
-use Rattle.gf128.proofs.Tests.{every, at}
+use Rattle.gf128.proofs.Tests.{and-left, and-right, allBelow, allBelow-at}
 use Rattle.gf128.proofs.Xor.{xor-assoc, xor-shl}
 use Rattle.ghash_block.proofs.Halves.{halves-xor}
 use Rattle.ghash_block.specs.declared.block.Block.{Block}
@@ -34,14 +34,14 @@ pub record Reduced (r : List ℕ) : Type 0 where
   pub rule : (n : ℕ) → n < 16 → getD r n 0 * 2 ^ 64 ≡ shifted n 4
   pub first : (n : ℕ) → n < 16 → getD r n 0 % 2 ^ 32 ≡ 0
 
-pub reduced : (r : List ℕ) → length r ≡ 16 → T (every reduces 0 r) → Reduced r
-reduced r l passes = record {
+pub reduced : (r : List ℕ) → T (allBelow 16 (λ n. reduces n (getD r n 0))) → Reduced r
+reduced r passes = record {
   rule = λ n h. eqb→eq (getD r n 0 * 2 ^ 64) (shifted n 4) (and-left (eqb (getD r n 0 * 2 ^ 64) (shifted n 4)) (eqb (getD r n 0 % 2 ^ 32) 0) (test n h));
   first = λ n h. eqb→eq (getD r n 0 % 2 ^ 32) 0 (and-right (eqb (getD r n 0 * 2 ^ 64) (shifted n 4)) (eqb (getD r n 0 % 2 ^ 32) 0) (test n h));
 }
   where
     test : (n : ℕ) → n < 16 → T (reduces n (getD r n 0))
-    test n h = at reduces r passes n (subst (λ (x : ℕ). n < x) (sym l) h)
+    test = allBelow-at 16 (λ n. reduces n (getD r n 0)) passes
 
 -- ---- four at a time
 

@@ -1,17 +1,23 @@
 -- Numbers and their bytes, the highest first: a run of bytes read or written in two parts is the run of both.
--- Main results: `beAt-split`, `beBytes-split`, `sets-split`, `beAt-lt`, `beAt-past`, `beAt-byte`, `beAt-sets`.
+-- Main results: `beAt-split`, `beBytes-split`, `sets-split`, `beAt-lt`, `beAt-past`, `beAt-byte`, `beAt-beBytes`, `beAt-sets`.
 -- Assumes nothing.
 use mathlib.Core.Path.{_≡_, refl, sym, ap, ap₂, _∙_}
 use mathlib.Core.List.{List, [], _∷_, _++_, append-assoc, append-nil}
-use Prim.Native.Nat.{ℕ, zero, suc, _+_, _*_, _/_, _%_, _^_, _≤_, _<_}
-use native.Mathlib.Nat.{add-zero, add-suc, suc-add, add-assoc, add-mul, mul-one, mul-assoc, pow-suc, pow-succ', div-one, div-div-eq-div-mul, mod-lt, zero-lt-suc, one-le-pow, le-trans, le-add-right, le-refl, le-of-lt, ne-of-lt, mod-one}
+use Prim.Native.Nat.{ℕ, zero, suc, _+_, _*_, _/_, _%_, _^_, _≤_, _<_, suc-le-suc}
+use native.Mathlib.Nat.{zero-add, add-zero, add-suc, suc-add, add-assoc, add-mul, mul-one, mul-assoc, pow-suc, pow-succ', div-one, div-div-eq-div-mul, mod-lt, zero-lt-suc, one-le-pow, le-trans, le-add-right, le-refl, le-of-lt, ne-of-lt, mod-one}
 use native.Mathlib.Numerals.{add-one}
 use native.Mathlib.Omega.{arith}
 use lib.Arith.{digits-lt, digits-div, digits-mod, mod-mul}
-use lib.ListN.{length, getD, set, length-append, List·getD-eq-default}
-use lib.Seq.{sets, lt-length-sets, getD-set-same, getD-set-other}
+use lib.ListN.{length, getD, set, length-append, List·getD-append, List·getD-eq-default}
+use lib.Seq.{getD-append-seam, sets, lt-length-sets, getD-set-same, getD-set-other}
 use Rattle.octets.specs.BigEndian.{beAt, beBytes}
 use Rattle.octets.specs.Bytes.{AreBytes}
+
+-- the bytes inside are enough, as past the end stand zeros
+pub bytes-inside : (s : List ℕ) → ((i : ℕ) → i < length s → getD s i 0 < 256) → AreBytes s
+bytes-inside [] b i = zero-lt-suc 255
+bytes-inside (x ∷ s) b zero = b 0 (zero-lt-suc (length s))
+bytes-inside (x ∷ s) b (suc i) = bytes-inside s (λ j h. b (suc j) (suc-le-suc h)) i
 
 -- ---- reading
 
@@ -92,6 +98,18 @@ beBytes-mod (suc k) v =
     (ap (λ (p : ℕ). p / 256) e ∙ digits-div (v / 256 % 256 ^ k) (mod-lt v (zero-lt-suc 255)))
     (ap (λ (p : ℕ). p % 256) e ∙ digits-mod (v / 256 % 256 ^ k) (mod-lt v (zero-lt-suc 255)))
     ∙ ap (λ (p : List ℕ). p ++ (v % 256 ∷ [])) (beBytes-mod k (v / 256))
+
+pub beAt-beBytes : (n v : ℕ) → beAt (beBytes n v) 0 n ≡ v % 256 ^ n
+unfolding beAt beBytes
+beAt-beBytes zero v = sym (mod-one v)
+beAt-beBytes (suc n) v =
+    let xs = beBytes n (v / 256) in
+    let b = v % 256 in
+    let l = length-beBytes n (v / 256) in
+    ap₂ (λ (x y : ℕ). x * 256 + y)
+    (beAt-same (xs ++ b ∷ []) xs 0 n (λ p w. List·getD-append xs (b ∷ []) 0 p (omega (arith, w .1))) ∙ beAt-beBytes n (v / 256))
+    (ap (λ (k : ℕ). getD (xs ++ b ∷ []) k 0) (zero-add n ∙ sym l) ∙ getD-append-seam xs b [] 0)
+    ∙ sym (last-byte n v)
 
 -- ---- writing
 

@@ -12,8 +12,8 @@ use Rattle.gf128.specs.Degree.{highest, degreeOf, degreeRefusal}
 use Rattle.gf128.specs.Field.{coeffOf, product}
 use Rattle.gf128.specs.Hash.{limit}
 use Rattle.gf128.specs.Running.{State, malformed}
-use Rattle.gf128.proofs.Computed.{quickSteps, quickProduct, quick-product}
-use Rattle.gf128.proofs.Places.{and-left, and-right}
+use Rattle.gf128.proofs.Computed.{quickXOf, quickSteps, quickProduct, quick-product}
+use Rattle.gf128.proofs.Tests.{and-left, and-right}
 use Rattle.vector_registers.specs.declared.settings.Settings.{Settings}
 use Rattle.vector_registers.specs.Group.{groupRefusal}
 use Rattle.vector_word.specs.declared.Fields.{Fields}
@@ -163,5 +163,5 @@ all-show [] t = tt
 all-show (e ∷ es) t = (shows e (and-left (right e) (allRight es) t), all-show es (and-right (right e) (allRight es) t))
 
 pub examples : ExamplesHold
-unfolding table allRight right same place numbersOf goesBack decode refusalOf refusalOfKnown groupRefusal numberOf file quickSteps quickProduct beAt beBytes highest degreeOf coeffOf executedBy doneBy ghashBy steps clmul clmul64 readLe writeLe maskBit carrylessResult carrylessStep carryless
+unfolding table allRight right same place numbersOf goesBack decode refusalOf refusalOfKnown groupRefusal numberOf file quickXOf quickSteps quickProduct beAt beBytes highest degreeOf coeffOf executedBy doneBy ghashBy steps clmul clmul64 readLe writeLe maskBit carrylessResult carrylessStep carryless
 examples = record { rows = refl; all = all-show table tt }

@@ -11,6 +11,7 @@ use native.Mathlib.Omega.{arith}
 use borrow.Author.Tests.{eqb-true, eqb-false, eq-eqb, not-false}
 use lib.Dec.{eqb}
 use lib.ListN.{length, getD}
+use Rattle.octets.specs.Bytes.{AreBytes}
 use Rattle.vector_registers.specs.declared.settings.Settings.{Settings}
 use Rattle.vector_word.specs.declared.Fields.{Fields}
 use Rattle.vector_word.specs.declared.Kind.{Kind}
@@ -45,7 +46,7 @@ unmasked vm vd rest small h ne =
     let z : vm ≡ 0 = omega arith in
     pos-of-ne-zero (eqb-false vd 0 (or-false (eqb vd 0) rest (subst (λ (b : Bool). b && (eqb vd 0 || rest) ≡ false) (eq-eqb vm 0 z) h) .0))
 
-module _ (f : Fields) (s : Settings) (scalar : ℕ) (file : List ℕ) (bytes : (p : ℕ) → getD file p 0 < 256) (n : Numbers f) where
+module _ (f : Fields) (s : Settings) (scalar : ℕ) (file : List ℕ) (bytes : AreBytes file) (n : Numbers f) where
   -- refusal 6, by the groups that a kind has: vd; vd and vs2; all three
   vd-of : (k : Kind) → Admitted (length file) k f s → Aligned s (f .vd)
   vd-of k a = aligned (s .lmul) (f .vd) (or-false (misaligned (s .lmul) (f .vd)) _ (a .not6) .0)
@@ -85,7 +86,7 @@ module _ (f : Fields) (s : Settings) (scalar : ℕ) (file : List ℕ) (bytes : (
   by-kind VgmulVs a = vs-done YAlone f s file bytes (settings VgmulVs a) (n .vd-small) (vd-of VgmulVs a) tt (sew32 (a .not4))
 
 module _
-    (word : ℕ) (s : Settings) (scalar : ℕ) (file : List ℕ) (bytes : (p : ℕ) → getD file p 0 < 256) (number : refusalOf (length file) word s ≡ 0)
+    (word : ℕ) (s : Settings) (scalar : ℕ) (file : List ℕ) (bytes : AreBytes file) (number : refusalOf (length file) word s ≡ 0)
     (k : Kind) (f : Fields) (known : decode word ≡ Known k f)
   where
     pub word-done : WordDone k f s scalar file (executed word s scalar file)

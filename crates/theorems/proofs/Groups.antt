@@ -7,7 +7,8 @@ use mathlib.Core.Path.{_≡_, sym, ap₂, subst}
 use Prim.Native.Nat.{ℕ, _+_, _*_, _/_, _%_, _^_, _<_, _≤_}
 use native.Mathlib.Omega.{arith}
 use lib.Bits.{bitXor}
-use lib.ListN.{length, getD}
+use lib.ListN.{length}
+use Rattle.octets.specs.Bytes.{AreBytes}
 use Rattle.gf128.specs.Bytes.{blockAt, putBlock}
 use Rattle.gf128.specs.Field.{product}
 use Rattle.octets.proofs.BigEndian.{beAt-lt, beAt-same}
@@ -38,7 +39,7 @@ put-does g at v room small = record {
 }
 
 module _
-    (m : GhashMultiplier) (f : Fields) (s : Settings) (file : List ℕ) (bytes : (p : ℕ) → getD file p 0 < 256) (ready : Ready (length file) s)
+    (m : GhashMultiplier) (f : Fields) (s : Settings) (file : List ℕ) (bytes : AreBytes file) (ready : Ready (length file) s)
     (vd-small : f .vd ≤ 31) (vd-aligned : Aligned s (f .vd)) (m-aligned : AlignedMultiplier m f s) (sew32 : s .sew ≡ 32)
   where
     abbrev place : ℕ → ℕ

@@ -11,13 +11,11 @@ use lib.Dec.{T, eqb, eqb→eq, lit<}
 use lib.Pow.{pow-pos}
 use lib.ListN.{getD}
 use Rattle.octets.specs.BigEndian.{beAt}
-use Rattle.gf128.specs.Hash.{next, blocksFrom, blocksOf, lengthBlock, messageOf}
+use Rattle.gf128.specs.Hash.{blocksFrom, blocksOf, lengthBlock, messageOf}
 use Rattle.gf128.specs.StepBack.{IsBlock, StepsBack}
-use Rattle.gf128.proofs.Computed.{quickSteps, quickProduct, quickOver, quickGhash, quick-product, quick-ghash}
-use Rattle.gf128.proofs.Field.{inverseOf, inverse-lt, inverse-product}
-use Rattle.gf128.proofs.Places.{and-left, and-right}
-use Rattle.gf128.proofs.Solve.{earlier, earlier-only}
-use Rattle.gf128.proofs.StepBack.{steps-back, steps-none, steps-many}
+use Rattle.gf128.proofs.Computed.{quickXOf, quickSteps, quickProduct, quickOver, quickGhash, quick-product, quick-ghash}
+use Rattle.gf128.proofs.Tests.{and-left, and-right}
+use Rattle.gf128.proofs.StepBack.{steps-to, steps-none, steps-many}
 use Rattle.vector_word.specs.declared.Kind.{Kind}
 use Rattle.vector_word.specs.declared.Kind.the-variants.{VclmulVv, VclmulVx, VclmulhVv, VclmulhVx, VghshVv, VghshVs, VgmulVv, VgmulVs}
 use Rattle.vector_word.specs.declared.Word.{Word}
@@ -101,7 +99,7 @@ is-block n e = div-lt-iff-lt-mul (pow-pos 128) .0 (subst (λ (q : ℕ). q < 1) (
 
 module _ (h x y1 number block : ℕ) where
   pub goes-back : (zh z1 : Bool) → eqb h 0 ≡ zh → eqb y1 0 ≡ z1 → T (goesBack zh z1 h x y1 number block) → StepsBack h x y1 number block
-  unfolding goesBack next earlier
+  unfolding goesBack
   goes-back true true eh e1 t =
       let e = same-at (number ∷ block ∷ []) (13 ∷ 0 ∷ []) t in
       subst₂ (StepsBack h x y1) (sym (e 0)) (sym (e 1)) (steps-many h x y1 (eqb-true h 0 eh) (eqb-true y1 0 e1))
@@ -112,11 +110,8 @@ module _ (h x y1 number block : ℕ) where
       let e =
       same-at (number ∷ quickProduct (bitXor block x) h ∷ above h ∷ above x ∷ above y1 ∷ above block ∷ []) (0 ∷ y1 ∷ 0 ∷ 0 ∷ 0 ∷ 0 ∷ []) t in
       let hh = is-block h (e 2) in
-      let hx = is-block x (e 3) in
-      let h1 = is-block y1 (e 4) in
-      let h0 = eqb-false h 0 eh in
-      let only = earlier-only h x y1 hh hx h1 h0 block (is-block block (e 5)) (sym (quick-product (bitXor block x) h) ∙ e 1) in
-      subst₂ (StepsBack h x y1) (sym (e 0)) (sym only) (steps-back h x y1 (inverseOf h) hh hx h1 (inverse-lt h hh) (inverse-product h hh h0) h0)
+      subst₂ (StepsBack h x y1) (sym (e 0)) refl
+      (steps-to h x y1 block hh (eqb-false h 0 eh) (is-block block (e 5)) (sym (quick-product (bitXor block x) h) ∙ e 1))
 
 shows : (c : Case) → T (right c) → Holds c
 unfolding right
@@ -140,5 +135,5 @@ all-show [] t = tt
 all-show (c ∷ cs) t = (shows c (and-left (right c) (allRight cs) t), all-show cs (and-right (right c) (allRight cs) t))
 
 pub marked : MarkedCasesHold
-unfolding table allRight right goesBack numbersOf place same quickSteps quickProduct quickOver quickGhash beAt blocksFrom blocksOf lengthBlock messageOf decode clmul clmul64
+unfolding table allRight right goesBack numbersOf place same quickXOf quickSteps quickProduct quickOver quickGhash beAt blocksFrom blocksOf lengthBlock messageOf decode clmul clmul64
 marked = record { rows = refl; all = all-show table tt }

@@ -16,6 +16,7 @@ use lib.ListN.{getD, set}
 use lib.Pow.{pow-add, pow-pos, shl-lt, shr-shr, field, mod-mod-pow}
 use lib.Seq.{sets}
 use Rattle.octets.specs.BigEndian.{beAt, beBytes}
+use Rattle.octets.specs.Bytes.{AreBytes}
 use Rattle.gf128.specs.Field.{coeffOf, timesXOf, shiftedOf, sumOf, productOf, product, reduction}
 use Rattle.octets.proofs.BigEndian.{beAt-split, beAt-lt, sets-split}
 use Rattle.gf128.proofs.Places.{digit-ind, digit-map, mod2-lt, coeffOf-lt, shiftedOf-lt, reduction-lt}
@@ -199,7 +200,7 @@ brev8-xor (suc n) x y =
 eight-more : (n : ℕ) → 8 * suc n ≡ 8 + 8 * n
 eight-more n = omega arith
 
-pub brev8-read : (g : List ℕ) → ((p : ℕ) → getD g p 0 < 256) → (at n : ℕ) → brev8Of n (readLe g at n) ≡ reversed (8 * n) (beAt g at n)
+pub brev8-read : (g : List ℕ) → AreBytes g → (at n : ℕ) → brev8Of n (readLe g at n) ≡ reversed (8 * n) (beAt g at n)
 unfolding brev8Of readLe beAt reversed
 brev8-read g b at zero = refl
 brev8-read g b at (suc n) =

@@ -13,17 +13,17 @@ use lib.Dec.{eqb, lit<, lit≤}
 use lib.ListN.{length, getD, set, replicate, length-replicate, getD-replicate, length-append, length-set, List·getD-append}
 use lib.Seq.{getD-set-same, getD-set-other}
 use Rattle.octets.specs.BigEndian.{beAt}
+use Rattle.octets.specs.Bytes.{AreBytes}
+use Rattle.octets.proofs.BigEndian.{bytes-inside}
 use Rattle.gf128.specs.Bytes.{blockAt}
 use Rattle.gf128.specs.Differ.{DifferOnce}
 use Rattle.gf128.specs.Hash.{blocksFrom, blocksOf}
 use Rattle.gf128.proofs.Hash.{be-same}
-use Rattle.theorems.specs.Changed.{AreBytes}
 use Rattle.theorems.specs.Witnesses.{AnyNonzeroKey, AnyByteOfA, AnyByteOfC, Witnesses}
-use Rattle.theorems.proofs.Changed.{everywhere}
 
 -- ---- equal numbers have equal bytes
 
-be-bytes : (s t : List ℕ) → ((i : ℕ) → getD s i 0 < 256) → ((i : ℕ) → getD t i 0 < 256) → (at n : ℕ) → beAt s at n ≡ beAt t at n
+be-bytes : (s t : List ℕ) → AreBytes s → AreBytes t → (at n : ℕ) → beAt s at n ≡ beAt t at n
     → (k : ℕ) → k < n → getD s (at + k) 0 ≡ getD t (at + k) 0
 unfolding beAt
 be-bytes s t bs bt at zero e k h = absurd (not-suc-le-zero h)
@@ -102,9 +102,9 @@ eq-or-ne j i = go (eqb j i) refl
 
 module _ (s : List ℕ) (i b : ℕ) (bytes : AreBytes s) (inside : i < length s) (byte : b < 256) (other : getD s i 0 ≢ b) where
   bytes-set : AreBytes (set s i b)
-  bytes-set j h = ⊎-elim
+  bytes-set j = ⊎-elim
       (λ e. subst (λ (k : ℕ). getD (set s i b) k 0 < 256) (sym e) (subst (λ (v : ℕ). v < 256) (sym (getD-set-same s i b 0 inside)) byte))
-      (λ n. subst (λ (v : ℕ). v < 256) (sym (getD-set-other s i j b 0 n)) (everywhere s bytes j))
+      (λ n. subst (λ (v : ℕ). v < 256) (sym (getD-set-other s i j b 0 n)) (bytes j))
       (eq-or-ne j i)
 
   differs-once : DifferOnce (blocksOf s) (blocksOf (set s i b))
@@ -124,7 +124,7 @@ module _ (s : List ℕ) (i b : ℕ) (bytes : AreBytes s) (inside : i < length s)
         inside = subst (λ (m : ℕ). p < m) (sym (length-blocks s 0 n)) p-in;
         differs = λ e. other
             (sym (ap (λ (j : ℕ). getD s j 0) at)
-            ∙ be-bytes s t (everywhere s bytes) (everywhere t bytes-set) (16 * (0 + p)) 16
+            ∙ be-bytes s t bytes bytes-set (16 * (0 + p)) 16
             (sym (block-at s 0 n p p-in) ∙ e ∙ block-at t 0 n p p-in) (i % 16) low
             ∙ ap (λ (j : ℕ). getD t j 0) at ∙ getD-set-same s i b 0 inside);
         agrees = λ k q. block-same s t 0 n k
@@ -167,7 +167,9 @@ any-nonzero-key key i l b h n =
     record { sixteen = l; bytes = b; notZero = λ e. n (ap (λ (j : ℕ). getD key j 0) (sym (zero-add i)) ∙ be-zero key 0 16 i h e) }
 
 all-bytes : (n v : ℕ) → v < 256 → AreBytes (replicate n v)
-all-bytes n v h i j = subst (λ (x : ℕ). x < 256) (sym (getD-replicate n i v 0 (subst (λ (m : ℕ). i < m) (length-replicate n v) j))) h
+all-bytes n v h =
+    bytes-inside (replicate n v)
+    (λ i j. subst (λ (x : ℕ). x < 256) (sym (getD-replicate n i v 0 (subst (λ (m : ℕ). i < m) (length-replicate n v) j))) h)
 
 ones : (n : ℕ) → AreBytes (replicate n 1)
 ones n = all-bytes n 1 (lit< tt)

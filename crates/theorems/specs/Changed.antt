@@ -1,19 +1,17 @@
 -- Demand 3's second half, in document 01's words: one changed block always shows in the hash, and in the bytes that the C functions write.
 -- `hashBlock` is the block that ghash_plain and ghash_fast both promise to return, so each message may take either path.
 -- Assumes nothing.
-use Prim.Native.Nat.{ℕ, _<_, _≤_}
+use Prim.Native.Nat.{ℕ, _≤_}
 use mathlib.Core.Path.{_≡_}
 use mathlib.Core.Logic.{_≢_}
 use mathlib.Core.List.{List, _++_}
-use lib.ListN.{length, getD}
+use lib.ListN.{length}
+use Rattle.octets.specs.Bytes.{AreBytes}
 use Rattle.gf128.specs.Bytes.{blockAt}
 use Rattle.gf128.specs.Differ.{DifferOnce}
 use Rattle.gf128.specs.Entries.{hashBlock, hashOut, outBytes}
 use Rattle.gf128.specs.Hash.{blocksOf, limit}
 use Rattle.gf128.specs.Pieces.{joined, runOf}
-
-abbrev pub AreBytes : List ℕ → Type 0
-AreBytes s = (i : ℕ) → i < length s → getD s i 0 < 256
 
 -- a key: 16 bytes, not zero
 pub record NonzeroKey (key : List ℕ) : Type 0 where

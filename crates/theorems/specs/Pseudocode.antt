@@ -9,6 +9,7 @@ use mathlib.Core.Path.{_≡_}
 use lib.Bits.{bitXor}
 use lib.Dec.{eqb}
 use lib.ListN.{length}
+use Rattle.octets.specs.Bytes.{AreBytes}
 use Rattle.vector_registers.specs.declared.settings.Settings.{Settings}
 use Rattle.vector_registers.specs.Settings.{registerBytes}
 use Rattle.vector_word.specs.declared.Fields.{Fields}
@@ -21,7 +22,6 @@ use Rattle.vector_refusal.specs.Refusal.{refusalOf}
 use Rattle.octets.specs.LittleEndian.{readLe, writeLe}
 use Rattle.vector_clmul.specs.Carryless.{active}
 use Rattle.vector_execute.specs.Execute.{executed}
-use Rattle.theorems.specs.Changed.{AreBytes}
 use Rattle.theorems.specs.Execution.{firstUnit, pastUnit, activeUnit}
 
 -- ---- what the texts are written in

@@ -6,7 +6,8 @@ use mathlib.Core.Path.{_≡_}
 use mathlib.Core.Logic.{_≢_}
 use mathlib.Core.List.{List, [], _∷_, _++_}
 use lib.ListN.{length, getD, set, replicate}
-use Rattle.theorems.specs.Changed.{AreBytes, NonzeroKey, OneBlockChanged}
+use Rattle.octets.specs.Bytes.{AreBytes}
+use Rattle.theorems.specs.Changed.{NonzeroKey, OneBlockChanged}
 
 -- any 16 bytes, one of them not zero, are a key that is not zero
 abbrev pub AnyNonzeroKey : Type 0

@@ -23,7 +23,7 @@ abbrev μ-loop : tie.MeasureT-loop
 
 loop-holds : tie.Need-loop-holds Inv-loop μ-loop
 unfolding shiftedOf timesXOf
-loop-holds c = (search needs, c .pre, reduced _ refl tt, below-none _, λ k h. refl)
+loop-holds c = (search needs, c .pre, reduced _ tt, below-none _, λ k h. refl)
 
 mul-t : tie.Need-mul-t Inv-loop μ-loop
 mul-t c = search needs
