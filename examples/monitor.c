@@ -4,13 +4,16 @@
  *
  *     monitor FILE
  *
- * A line of the file is one of
- *     # a comment
+ * A line of the file is one of these; # begins a comment.
  *     vlen N                                  clears the register file for this VLEN
  *     reg R HEX                               bytes for register R, from its first byte on
  *     trap WORD SEW LMUL VL VSTART SCALAR     a trapped word (WORD and SCALAR in hex, 0x or not)
+ *
+ * Exit status: 0 if every line was taken, and a refused word is an answer like any other; 1 if a line is wrong, which is
+ * told with its number and ends the run; 2 if the file cannot be read or the answers cannot be written.
  */
 #include <ctype.h>
+#include <errno.h>
 #include <inttypes.h>
 #include <stdio.h>
 #include <stdlib.h>
@@ -18,14 +21,15 @@
 
 #include "rvghash.h"
 
-#define MAX_FILE (32 * 512 / 8)
+#define MAX_VLEN 512
+#define MAX_FILE RVGHASH_FILE_BYTES(MAX_VLEN)
+#define MAX_LINE 511
+#define MAX_WORDS 7
 
 struct machine {
     uint32_t vlen;
     uint8_t file[MAX_FILE];
 };
-
-static size_t file_length(const struct machine *m) { return (size_t)32 * m->vlen / 8; }
 
 /* The trapped instruction's name, for the listing alone: rvghash_execute decodes the word itself. */
 static const char *name_of(uint32_t word)
@@ -72,11 +76,11 @@ static void trap(struct machine *m, uint32_t word, uint32_t sew, uint32_t lmul, 
                  uint64_t scalar)
 {
     uint8_t before[MAX_FILE];
-    size_t bytes = m->vlen / 8, length = file_length(m);
+    size_t bytes = m->vlen / 8, length = RVGHASH_FILE_BYTES(m->vlen);
     memcpy(before, m->file, length);
     uint32_t number = rvghash_execute(word, m->vlen, sew, lmul, vl, &vstart, scalar, m->file, length);
-    printf("%08" PRIx32 " %-10s answer %" PRIu32 ": %s; vstart is now %" PRIu32 "\n", word, name_of(word), number,
-           meaning_of(number), vstart);
+    printf("%08" PRIx32 " %-10s answer %" PRIu32 ": %s; vstart %s %" PRIu32 "\n", word, name_of(word), number,
+           meaning_of(number), number == RVGHASH_DONE ? "is now" : "stays", vstart);
     unsigned changed = 0;
     for (unsigned r = 0; r < 32 && bytes > 0; r++)
         if (memcmp(before + r * bytes, m->file + r * bytes, bytes) != 0) {
@@ -87,52 +91,155 @@ static void trap(struct machine *m, uint32_t word, uint32_t sew, uint32_t lmul, 
         printf("    no register changed\n");
 }
 
-static int hex_digit(int c)
+/* Where the line that is being read stands. */
+struct place {
+    const char *file;
+    unsigned long line;
+};
+
+/* Tells what is wrong with a line, and gives 0 for "not taken". */
+static int wrong(const struct place *at, const char *text, const char *what)
+{
+    fprintf(stderr, "%s:%lu: %s: %s\n", at->file, at->line, text, what);
+    return 0;
+}
+
+static int digit(int c)
 {
     if (c >= '0' && c <= '9')
         return c - '0';
     c = tolower(c);
-    return c >= 'a' && c <= 'f' ? c - 'a' + 10 : -1;
+    return c >= 'a' && c <= 'f' ? c - 'a' + 10 : 16;
 }
 
-/* Puts hex bytes into register r; returns 0 where they are not hex or do not fit. */
-static int set_register(struct machine *m, unsigned r, const char *hex)
+/* Reads a whole word as a number, at most `most`; no sign, and 0x only in front of hex. */
+static int number(const struct place *at, const char *word, int base, uint64_t most, uint64_t *to)
 {
-    size_t bytes = m->vlen / 8, digits = strlen(hex);
-    if (r > 31 || digits % 2 != 0 || digits / 2 > bytes)
-        return 0;
-    for (size_t i = 0; i < digits / 2; i++) {
-        int high = hex_digit((unsigned char)hex[2 * i]), low = hex_digit((unsigned char)hex[2 * i + 1]);
-        if (high < 0 || low < 0)
-            return 0;
-        m->file[r * bytes + i] = (uint8_t)(high * 16 + low);
+    const char *text = word;
+    uint64_t value = 0;
+    if (base == 16 && text[0] == '0' && (text[1] == 'x' || text[1] == 'X'))
+        text += 2;
+    if (*text == '\0')
+        return wrong(at, word, "not a number");
+    for (; *text != '\0'; text++) {
+        int d = digit((unsigned char)*text);
+        if (d >= base)
+            return wrong(at, word, base == 16 ? "not a number in hex" : "not a number");
+        if (value > (most - (uint64_t)d) / (uint64_t)base)
+            return wrong(at, word, "the number is too large");
+        value = value * (uint64_t)base + (uint64_t)d;
     }
+    *to = value;
     return 1;
 }
 
-/* Takes one line; returns 0 where it cannot be read. */
-static int take_line(struct machine *m, char *line)
+static int small(const struct place *at, const char *word, int base, uint32_t most, uint32_t *to)
 {
-    char hex[2 * 64 + 1];
-    uint32_t vlen, word, sew, lmul, vl, vstart;
-    unsigned r;
+    uint64_t value;
+    if (!number(at, word, base, most, &value))
+        return 0;
+    *to = (uint32_t)value;
+    return 1;
+}
+
+static int take_vlen(struct machine *m, const struct place *at, char **words)
+{
+    uint32_t vlen;
+    if (!small(at, words[1], 10, MAX_VLEN, &vlen))
+        return 0;
+    m->vlen = vlen;
+    memset(m->file, 0, sizeof m->file);
+    return 1;
+}
+
+static int take_reg(struct machine *m, const struct place *at, char **words)
+{
+    uint32_t r;
+    const char *hex = words[2];
+    size_t bytes = m->vlen / 8, digits = strlen(hex);
+    if (!small(at, words[1], 10, 31, &r))
+        return 0;
+    if (digits % 2 != 0)
+        return wrong(at, hex, "half a byte is missing");
+    if (digits / 2 > bytes)
+        return wrong(at, hex, "more bytes than a register has");
+    for (size_t i = 0; i < digits; i++)
+        if (digit((unsigned char)hex[i]) > 15)
+            return wrong(at, hex, "not all digits are hex");
+    for (size_t i = 0; i < digits / 2; i++)
+        m->file[r * bytes + i] = (uint8_t)(digit((unsigned char)hex[2 * i]) * 16 + digit((unsigned char)hex[2 * i + 1]));
+    return 1;
+}
+
+static int take_trap(struct machine *m, const struct place *at, char **words)
+{
+    uint32_t word, sew, lmul, vl, vstart;
     uint64_t scalar;
-    line[strcspn(line, "#\r\n")] = '\0';
-    if (line[strspn(line, " \t")] == '\0')
+    if (!small(at, words[1], 16, UINT32_MAX, &word) || !small(at, words[2], 10, UINT32_MAX, &sew) ||
+        !small(at, words[3], 10, UINT32_MAX, &lmul) || !small(at, words[4], 10, UINT32_MAX, &vl) ||
+        !small(at, words[5], 10, UINT32_MAX, &vstart) || !number(at, words[6], 16, UINT64_MAX, &scalar))
+        return 0;
+    trap(m, word, sew, lmul, vl, vstart, scalar);
+    return 1;
+}
+
+/* Takes one line, without its end; gives 0 where it is wrong. */
+static int take_line(struct machine *m, const struct place *at, char *line)
+{
+    static const struct {
+        const char *name, *form;
+        int words;
+        int (*take)(struct machine *, const struct place *, char **);
+    } kinds[] = {
+        {"vlen", "must be: vlen N", 2, take_vlen},
+        {"reg", "must be: reg R HEX", 3, take_reg},
+        {"trap", "must be: trap WORD SEW LMUL VL VSTART SCALAR", 7, take_trap},
+    };
+    char *words[MAX_WORDS];
+    int count = 0;
+    line[strcspn(line, "#")] = '\0';
+    for (char *word = strtok(line, " \t\r"); word != NULL; word = strtok(NULL, " \t\r"), count++)
+        if (count < MAX_WORDS)
+            words[count] = word;
+    if (count == 0)
         return 1;
-    if (sscanf(line, " vlen %" SCNu32, &vlen) == 1) {
-        if (vlen > 512)
-            return 0;
-        m->vlen = vlen;
-        memset(m->file, 0, sizeof m->file);
+    for (size_t i = 0; i < sizeof kinds / sizeof kinds[0]; i++)
+        if (strcmp(words[0], kinds[i].name) == 0)
+            return count == kinds[i].words ? kinds[i].take(m, at, words) : wrong(at, words[0], kinds[i].form);
+    return wrong(at, words[0], "not vlen, reg, trap or a comment");
+}
+
+/* Reads one line, without its end: 1 if there is one, 0 at the end of the file or if it cannot be read, -1 if it is no
+ * line of text that fits. */
+static int read_line(FILE *f, char line[MAX_LINE + 1])
+{
+    int length = 0, c = fgetc(f);
+    if (c == EOF)
+        return 0;
+    for (; c != EOF && c != '\n'; c = fgetc(f)) {
+        if (c == '\0' || length == MAX_LINE)
+            return -1;
+        line[length++] = (char)c;
+    }
+    line[length] = '\0';
+    return ferror(f) ? 0 : 1;
+}
+
+static int take_file(struct machine *m, FILE *f, const char *name)
+{
+    struct place at = {name, 1};
+    char line[MAX_LINE + 1];
+    int read;
+    for (; (read = read_line(f, line)) > 0; at.line++)
+        if (!take_line(m, &at, line))
+            return 1;
+    if (read < 0) {
+        wrong(&at, "the line", "longer than 511 bytes, or has a zero byte");
         return 1;
     }
-    if (sscanf(line, " reg %u %128s", &r, hex) == 2)
-        return set_register(m, r, hex);
-    if (sscanf(line, " trap %" SCNx32 " %" SCNu32 " %" SCNu32 " %" SCNu32 " %" SCNu32 " %" SCNx64, &word, &sew, &lmul,
-               &vl, &vstart, &scalar) == 6) {
-        trap(m, word, sew, lmul, vl, vstart, scalar);
-        return 1;
+    if (ferror(f)) {
+        fprintf(stderr, "%s: %s\n", name, strerror(errno));
+        return 2;
     }
     return 0;
 }
@@ -140,22 +247,20 @@ static int take_line(struct machine *m, char *line)
 int main(int argc, char **argv)
 {
     static struct machine m = {128, {0}};
-    char line[512];
     if (argc != 2) {
         fprintf(stderr, "usage: monitor FILE\n");
         return 2;
     }
     FILE *f = fopen(argv[1], "r");
     if (f == NULL) {
-        perror(argv[1]);
+        fprintf(stderr, "%s: %s\n", argv[1], strerror(errno));
         return 2;
     }
-    for (unsigned long n = 1; fgets(line, sizeof line, f) != NULL; n++)
-        if (!take_line(&m, line)) {
-            fprintf(stderr, "%s:%lu: not a comment, vlen, reg or trap line\n", argv[1], n);
-            fclose(f);
-            return 1;
-        }
+    int status = take_file(&m, f, argv[1]);
     fclose(f);
-    return 0;
+    if (fflush(stdout) != 0) {
+        perror("monitor: standard output");
+        return 2;
+    }
+    return status;
 }
