@@ -78,11 +78,12 @@ struct summary item_time(const struct item *item, const struct item *less, int r
     return (struct summary){middle, (v[rounds * 3 / 4] - v[rounds / 4]) / middle};
 }
 
-double item_ratio(const struct item *a, const struct item *less_a, const struct item *b, const struct item *less_b,
-                  int rounds)
+struct ratio item_ratio(const struct item *a, const struct item *less_a, const struct item *b, const struct item *less_b,
+                        int rounds)
 {
     double v[MAX_ROUNDS];
     for (int i = 0; i < rounds; i++)
         v[i] = net(a, less_a, i) / net(b, less_b, i);
-    return median(v, rounds);
+    double middle = median(v, rounds);
+    return (struct ratio){v[rounds / 4], middle, v[rounds * 3 / 4]};
 }

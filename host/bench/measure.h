@@ -31,8 +31,13 @@ struct summary {
 /* Of the item's times, each less the time of less (may be NULL) in the same round. */
 struct summary item_time(const struct item *item, const struct item *less, int rounds);
 
-/* The median over the rounds of (a - less_a) / (b - less_b); either less may be NULL. */
-double item_ratio(const struct item *a, const struct item *less_a, const struct item *b, const struct item *less_b,
-                  int rounds);
+/* The median and the quartiles. */
+struct ratio {
+    double low, median, high;
+};
+
+/* Of (a - less_a) / (b - less_b) over the rounds; either less may be NULL. */
+struct ratio item_ratio(const struct item *a, const struct item *less_a, const struct item *b, const struct item *less_b,
+                        int rounds);
 
 #endif

@@ -31,7 +31,7 @@ static struct summary hash_time(const struct plan *plan, int peer, int length)
 }
 
 /* How many times as fast as the peer the fast path is. */
-static double speedup(const struct plan *plan, int peer, int length)
+static struct ratio speedup(const struct plan *plan, int peer, int length)
 {
     return item_ratio(&plan->hash[peer][length], less_of(plan, peer), &plan->hash[FAST][length], NULL, plan->rounds);
 }
@@ -46,7 +46,7 @@ static double time_of(const struct plan *plan, const struct item *item)
     return item_time(item, NULL, plan->rounds).median;
 }
 
-static double ratio(const struct plan *plan, const struct item *a, const struct item *b)
+static struct ratio ratio(const struct plan *plan, const struct item *a, const struct item *b)
 {
     return item_ratio(a, NULL, b, NULL, plan->rounds);
 }
@@ -62,34 +62,38 @@ static void report_how(const struct plan *plan)
     peers_versions();
 }
 
-static void target(const char *text, const char *bound, double measured, int met)
+enum side { AT_LEAST, AT_MOST };
+
+/* A target is met, or missed, where the quartiles are on one side of its bound; else the run does not show which. */
+static void target(const char *text, enum side side, double bound, struct ratio r)
 {
-    printf("| %s | %s | %.2f | %s |\n", text, bound, measured, met ? "met" : "**missed**");
+    double better = side == AT_LEAST ? r.high - bound : bound - r.low;
+    double worse = side == AT_LEAST ? r.low - bound : bound - r.high;
+    printf("| %s | %s %g | %.2f | %.2f to %.2f | %s |\n", text, side == AT_LEAST ? "at least" : "at most", bound, r.median,
+           r.low, r.high, worse >= 0 ? "met" : better < 0 ? "**missed**" : "**not shown**");
 }
 
 static void speed_target(const struct plan *plan, const char *text, int peer, int length, double least)
 {
     if (peers[peer].missing) {
-        printf("| %s | at least %g | – | not measured: %s |\n", text, least, peers[peer].missing);
+        printf("| %s | at least %g | – | – | not measured: %s |\n", text, least, peers[peer].missing);
         return;
     }
-    char bound[32];
-    snprintf(bound, sizeof bound, "at least %g", least);
-    double measured = speedup(plan, peer, length);
-    target(text, bound, measured, measured >= least);
+    target(text, AT_LEAST, least, speedup(plan, peer, length));
 }
 
 static void report_targets(const struct plan *plan)
 {
-    printf("\n## Targets\n\n| target | wanted | measured | |\n|---|---|---|---|\n");
+    printf("\n## Targets\n\nA target is met where both quartiles of the rounds are on its side of the bound, missed where both "
+           "are on the other, and\nelse not shown by this run.\n\n"
+           "| target | wanted | median | quartiles | |\n|---|---|---|---|---|\n");
     speed_target(plan, "1 MiB, fast path: speed over libgcrypt's with hardware features off", LIBGCRYPT, LONG, 1.25);
     speed_target(plan, "1 MiB, fast path: speed over BearSSL ctmul64's", BEARSSL_CTMUL64, LONG, 2.2);
     speed_target(plan, "64 bytes, new key, fast path: speed over BearSSL ctmul64's", BEARSSL_CTMUL64, SHORT, 1.6);
-    double word = ratio(plan, &plan->word[VGHSH_VV][WIDEST], &plan->group_products);
-    target("vghsh.vv, VLEN 512, LMUL 8: time over that of its 32 fast products, a new key each", "at most 1.4", word,
-           word <= 1.4);
-    double back = ratio(plan, &plan->step_back, &plan->fast_product);
-    target("step back: time over that of a fast product with a new key", "at most 60", back, back <= 60);
+    target("vghsh.vv, VLEN 512, LMUL 8: time over that of its 32 fast products, a new key each", AT_MOST, 1.4,
+           ratio(plan, &plan->word[VGHSH_VV][WIDEST], &plan->group_products));
+    target("step back: time over that of a fast product with a new key", AT_MOST, 60,
+           ratio(plan, &plan->step_back, &plan->fast_product));
 }
 
 static void report_peer(const struct plan *plan, int peer)
@@ -101,10 +105,10 @@ static void report_peer(const struct plan *plan, int peer)
     }
     cell(throughput(plan, peer, LONG));
     printf(" %.1f %% |", 100 * hash_time(plan, peer, LONG).spread);
-    cell(speedup(plan, peer, LONG));
+    cell(speedup(plan, peer, LONG).median);
     cell(hash_time(plan, peer, SHORT).median);
     printf(" %.1f %% |", 100 * hash_time(plan, peer, SHORT).spread);
-    cell(speedup(plan, peer, SHORT));
+    cell(speedup(plan, peer, SHORT).median);
     printf("\n");
 }
 
@@ -156,7 +160,7 @@ static void row(const char *text, double ns, double over)
 
 static void product_row(const struct plan *plan, const char *text, const struct item *item)
 {
-    row(text, time_of(plan, item), ratio(plan, item, &plan->fast_product));
+    row(text, time_of(plan, item), ratio(plan, item, &plan->fast_product).median);
 }
 
 static void report_products(const struct plan *plan)
@@ -171,8 +175,9 @@ static void report_products(const struct plan *plan)
     double parts = word_parts(&plan->word_cases[VCLMUL_VV][WIDEST]);
     printf("\n## 64-bit carry-less product\n\n| | ns | over plain C |\n|---|--:|--:|\n");
     row("an element of vclmul.vv at VLEN 512, LMUL 8", time_of(plan, low) / parts,
-        ratio(plan, low, &plan->c_clmul) / parts);
-    row("an element of vclmulh.vv, the same", time_of(plan, high) / parts, ratio(plan, high, &plan->c_clmul) / parts);
+        ratio(plan, low, &plan->c_clmul).median / parts);
+    row("an element of vclmulh.vv, the same", time_of(plan, high) / parts,
+        ratio(plan, high, &plan->c_clmul).median / parts);
     row("plain C, both halves", time_of(plan, &plan->c_clmul), 1);
 }
 
