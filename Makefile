@@ -57,8 +57,10 @@ derive: ## derives the known answers' data again, and compares it with the recor
 	/usr/bin/python3 host/derive/limits.py
 	sha256sum --check host/derive/SHA256SUMS
 
-integration: $(lib) ## measures the archive, and writes docs/INTEGRATION.md
-	host/integration --write $(lib)
+integration: riscv ## measures the libraries, and writes the tables of docs/INTEGRATION.md
+	@host/setup check integration
+	host/integration --write $(lib) x86-64
+	for arch in rv64gc rv64imac; do host/integration --write target/riscv64/$$arch/librvghash.a $$arch; done
 
 riscv: $(lib) ## writes the box's libraries, target/riscv64/rv64gc/librvghash.a and target/riscv64/rv64imac/librvghash.a
 	@host/setup check riscv
