@@ -79,6 +79,14 @@ RVGHASH_MUST_USE
 uint32_t rvghash_group_refusal(uint32_t vlen, size_t file_len, uint32_t lmul, uint32_t reg);
 
 /*
+ * Where a register group lies in a file of file_len bytes, which is not passed itself.
+ * Lent: start and length, one number each. The answers are those of rvghash_group_refusal.
+ * Done (0): the group is the *length bytes from byte *start on. Refused (1, 3 or 6): both are 0.
+ */
+RVGHASH_MUST_USE
+uint32_t rvghash_group(uint32_t vlen, size_t file_len, uint32_t lmul, uint32_t reg, size_t *start, size_t *length);
+
+/*
  * The product of a block and a key in the GHASH field, bit by bit (plain) or four coefficients at a time (fast).
  * Lent: key and block, 16 bytes each, only read; out, 16 bytes.
  * Done (0): out holds the product. Refused (9): out holds 16 zero bytes; an out that is not 16 bytes long is not

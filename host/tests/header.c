@@ -108,6 +108,7 @@ static void vector(void)
 {
     uint8_t file[512] = {0};
     uint32_t vstart = 0;
+    size_t start, length;
     file[2 * 16] = 3;
     expect(rvghash_execute(0x3221E0D7, 128, 8, 1, 1, &vstart, 3, file, sizeof file) == RVGHASH_DONE, "vclmul.vx");
     expect(file[16] == 5, "K1");
@@ -116,6 +117,10 @@ static void vector(void)
     expect(vstart == 9, "a refusal leaves vstart");
     expect(rvghash_group_refusal(128, 512, 2, 31) == RVGHASH_BAD_GROUP, "register 31 at LMUL 2");
     expect(rvghash_group_refusal(128, 512, 1, 31) == RVGHASH_DONE, "register 31 at LMUL 1");
+    expect(rvghash_group(128, 512, 2, 30, &start, &length) == RVGHASH_DONE, "registers 30 and 31");
+    expect(start == 480 && length == 32, "a group's start and length");
+    expect(rvghash_group(128, 512, 2, 31, &start, &length) == RVGHASH_BAD_GROUP, "no group at register 31");
+    expect(start == 0 && length == 0, "no group has no bytes");
 }
 
 int main(void)

@@ -1,12 +1,13 @@
 // The executor and the group question.
 ghost use mathlib.Core.Path.{_≡_};
 ghost use lib.ListN.{length};
-ghost use Rattle.vector_registers.specs.Group.{groupRefusal};
+ghost use Rattle.vector_registers.specs.Group.{groupRefusal, partStart, partLength};
 ghost use Rattle.vector_refusal.specs.Refusal.{refusalOf};
 ghost use Rattle.vector_execute.specs.Execute.{executed, vstartAfter};
 ghost use Rattle.rvghash.specs.Call.{settingsOf};
 use vector_execute::execute::execute;
 use vector_registers::group::group_refusal;
+use vector_registers::group::part_of;
 use vector_registers::settings::Settings;
 
 #[no_mangle]
@@ -41,4 +42,24 @@ pub extern "C" fn rvghash_group_refusal(vlen: u32, file_len: usize, lmul: u32, r
     ensures { λ r. ⌜ r ≡ groupRefusal vlen «file_len» lmul reg ⌝ }
 {
     group_refusal(vlen, file_len, lmul, reg)
+}
+
+// Where the group lies in the file: its first byte and its length.
+#[no_mangle]
+pub extern "C" fn rvghash_group(
+    vlen: u32,
+    file_len: usize,
+    lmul: u32,
+    reg: u32,
+    start: &mut usize,
+    length: &mut usize,
+) -> u32
+    ensures { λ r. ⌜ (r ≡ groupRefusal vlen «file_len» lmul reg)
+        × (now (start .exit) ≡ partStart vlen «file_len» lmul reg)
+        × (now (length .exit) ≡ partLength vlen «file_len» lmul reg) ⌝ }
+{
+    let part = part_of(vlen, file_len, lmul, reg);
+    *start = part.start;
+    *length = part.length;
+    part.number
 }

@@ -1,17 +1,19 @@
--- A register group's part is empty exactly when the group's number is not 0 (`empty-when-refused`); else it has the group's length
--- (`part-length`), for the group lies within the file (`within`).
+-- A register group's part is empty exactly when the group's number is not 0 (`empty-when-refused`), and lies within the file always
+-- (`part-within`).
 -- Assumes nothing.
-use Prim.Native.Nat.{ℕ, _+_, _*_, _%_, _≤_, _<_}
-use mathlib.Core.Bool.{true, cond, not, _||_}
-use mathlib.Core.List.{List, []}
+use Prim.Native.Nat.{ℕ, _+_, _-_, _*_, _%_, _≤_, _<_}
+use mathlib.Core.Bool.{Bool, true, false, cond, not, _||_}
+use mathlib.Core.List.{List, [], _∷_}
 use mathlib.Core.Logic.{_↔_, _≢_}
-use mathlib.Core.Path.{_≡_, refl, sym, ap, _∙_}
+use mathlib.Core.Path.{Path, _≡_, refl, sym, ap, _∙_}
+use native.Mathlib.Nat.{suc-ne-zero, add-sub-cancel-left, add-comm}
 use native.Mathlib.Omega.{arith}
 use borrow.Author.Tests.{eqb-true, ltb-false, not-false, eq-eqb, ne-eqb}
 use lib.Dec.{eqb, ltb}
 use lib.ListN.{length, take, drop, length-take, length-drop}
+use Rattle.vector_registers.specs.declared.group.Part.{Part}
 use Rattle.vector_registers.specs.Settings.{applies1, vlenAllowed, lmulAllowed, misaligned, registerBytes, fileBytes, groupRegisters, groupLength}
-use Rattle.vector_registers.specs.Group.{groupRefusal, groupOf}
+use Rattle.vector_registers.specs.Group.{groupRefusal, partStart, partLength, partOf, groupOf}
 use Rattle.vector_registers.proofs.Allowed.{each-vlen, each-group}
 use Rattle.vector_word.proofs.Tests.{pick-here, pick-next, or-false, passed}
 
@@ -66,24 +68,62 @@ module _ (vlen fileLength lmul register : ℕ) (zero : groupRefusal vlen fileLen
       (registers-within vlen register lmul (granted .vlen-allowed)
       (last-register lmul register (granted .lmul-allowed) (granted .a-register) (granted .aligned)))
 
+same-part : {a b x y l m : ℕ} → a ≡ b → x ≡ y → l ≡ m
+    → Path Part (record { number = a; start = x; length = l }) (record { number = b; start = y; length = m })
+same-part e f g = rw (e, f, g)
+
+-- what is handed back: all of the group where the number is 0, else nothing; either way it lies within the file
+module _ (vlen fileLength lmul register : ℕ) where
+  pub the-part : groupRefusal vlen fileLength lmul register ≡ 0
+      → (register * registerBytes vlen ≡ partStart vlen fileLength lmul register) × (groupLength vlen lmul ≡ partLength vlen fileLength lmul register)
+  the-part h = (pick-here _ _ _ (eq-eqb _ _ h), pick-here _ _ _ (eq-eqb _ _ h))
+
+  pub no-part : groupRefusal vlen fileLength lmul register ≢ 0
+      → (0 ≡ partStart vlen fileLength lmul register) × (0 ≡ partLength vlen fileLength lmul register)
+  no-part h = (pick-next _ _ _ (ne-eqb _ _ h) refl, pick-next _ _ _ (ne-eqb _ _ h) refl)
+
+  pub part-within : partStart vlen fileLength lmul register + partLength vlen fileLength lmul register ≤ fileLength
+  part-within = go (eqb (groupRefusal vlen fileLength lmul register) 0) (λ e. within vlen fileLength lmul register (eqb-true _ _ e))
+    where
+      go : (b : Bool) → (b ≡ true → register * registerBytes vlen + groupLength vlen lmul ≤ fileLength)
+          → cond b (register * registerBytes vlen) 0 + cond b (groupLength vlen lmul) 0 ≤ fileLength
+      go true h = h refl
+      go false h = omega arith
+
+  -- the parts that the code makes
+  pub refused-part : {n : ℕ} → n ≡ groupRefusal vlen fileLength lmul register → n ≢ 0
+      → Path Part (record { number = n; start = 0; length = 0 }) (partOf vlen fileLength lmul register)
+  refused-part e h = let p = no-part (λ z. h (e ∙ z)) in same-part e (p .0) (p .1)
+
+  pub granted-part : {start size : ℕ} → groupRefusal vlen fileLength lmul register ≡ 0 → start ≡ register * registerBytes vlen → size ≡ groupLength vlen lmul
+      → Path Part (record { number = 0; start = start; length = size }) (partOf vlen fileLength lmul register)
+  granted-part h s l = let p = the-part h in same-part (sym h) (s ∙ p .0) (l ∙ p .1)
+
+-- the bytes of a file that such a part is
+module _ (vlen : ℕ) (file : List ℕ) (lmul register : ℕ) {p : Part} (e : p ≡ partOf vlen (length file) lmul register) where
+  pub bytes-within : p .start + p .length ≤ length file
+  bytes-within = rw e (part-within vlen (length file) lmul register)
+
+  pub bytes-of : take (p .start + p .length - p .start) (drop (p .start) file) ≡ groupOf vlen file lmul register
+  unfolding groupOf
+  bytes-of = rw (e, add-sub-cancel-left)
+
+  -- its pointer, where the file's is `at`
+  pub pointer-of : (at : ℕ) → p .start + at ≡ at + partStart vlen (length file) lmul register
+  pointer-of at = ap (λ (q : Part). q .start + at) e ∙ add-comm (partStart vlen (length file) lmul register) at
+
 module _ (vlen : ℕ) (file : List ℕ) (lmul register : ℕ) where
-  pub the-part : groupRefusal vlen (length file) lmul register ≡ 0
-      → take (groupLength vlen lmul) (drop (register * registerBytes vlen) file) ≡ groupOf vlen file lmul register
+  pub part-length : length (groupOf vlen file lmul register) ≡ partLength vlen (length file) lmul register
   unfolding groupOf
-  the-part h = pick-here _ _ _ (eq-eqb _ _ h)
-
-  pub no-part : groupRefusal vlen (length file) lmul register ≢ 0 → [] ≡ groupOf vlen file lmul register
-  unfolding groupOf
-  no-part h = pick-next _ _ _ (ne-eqb _ _ h) refl
-
-  pub part-length : groupRefusal vlen (length file) lmul register ≡ 0
-      → length (groupOf vlen file lmul register) ≡ groupLength vlen lmul
-  part-length h =
-      sym (ap length (the-part h)) ∙ simp (length-take, length-drop) (omega (arith, within vlen (length file) lmul register h))
+  part-length = simp (length-take, length-drop) (omega (arith, part-within vlen (length file) lmul register))
 
   pub empty-when-refused : groupOf vlen file lmul register ≡ [] ↔ groupRefusal vlen (length file) lmul register ≢ 0
   empty-when-refused = (
     λ e h. let g = granted vlen (length file) lmul register h in
-        omega (arith, some-bytes vlen lmul (g .vlen-allowed) (g .lmul-allowed), part-length h, ap length e),
-    λ h. sym (no-part h),
+        omega (arith, some-bytes vlen lmul (g .vlen-allowed) (g .lmul-allowed), the-part vlen (length file) lmul register h .1, part-length, ap length e),
+    λ h. empty (groupOf vlen file lmul register) (part-length ∙ sym (no-part vlen (length file) lmul register h .1)),
   )
+    where
+      empty : (l : List ℕ) → length l ≡ 0 → l ≡ []
+      empty [] e = refl
+      empty (x ∷ l) e = absurd (suc-ne-zero (length l) e)

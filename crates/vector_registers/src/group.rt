@@ -1,6 +1,8 @@
 // Register groups: document 01, "Asked for a register group, the library hands back that group's own bytes of the lent file."
+ghost use Prim.Native.Nat.{_+_};
 ghost use mathlib.Core.Path.{_≡_};
-ghost use Rattle.vector_registers.specs.Group.{groupRefusal, groupOf};
+ghost use lib.ListN.{length};
+ghost use Rattle.vector_registers.specs.Group.{groupRefusal, partStart, partOf, groupOf};
 use crate::settings::applies_1;
 use crate::settings::group_length;
 use crate::settings::lmul_allowed;
@@ -26,14 +28,52 @@ pub fn group_refusal(vlen: u32, file_len: usize, lmul: u32, register: u32) -> u3
     0
 }
 
+// The part of the file that a group is: its start and length in bytes, 0 and 0 where the number is not 0.
+pub struct Part {
+    pub number: u32,
+    pub start: usize,
+    pub length: usize,
+}
+
+// Where the group lies in a file of this length, and the number.
+pub fn part_of(vlen: u32, file_len: usize, lmul: u32, register: u32) -> Part
+    ensures { λ r. ⌜ r ≡ partOf vlen «file_len» lmul register ⌝ }
+{
+    let number = group_refusal(vlen, file_len, lmul, register);
+    if number != 0 {
+        return Part {
+            number,
+            start: 0,
+            length: 0,
+        };
+    }
+    Part {
+        number: 0,
+        start: (register as usize) * register_bytes(vlen),
+        length: group_length(vlen, lmul),
+    }
+}
+
 // The group's own bytes of the lent file; none where the number is not 0.
 pub fn group<'a>(file: &'a mut [u8], vlen: u32, lmul: u32, register: u32) -> &'a mut [u8]
-    ensures { λ r. ⌜ now r ≡ groupOf vlen (now (file .entry)) lmul register ⌝ }
+    ensures { λ r. ⌜ (now r ≡ groupOf vlen (now (file .entry)) lmul register)
+        × (r .ptr .0 ≡ file .entry .ptr .0)
+        × (r .ptr .1 ≡ file .entry .ptr .1 + partStart vlen (length (now (file .entry))) lmul register) ⌝ }
 {
-    if group_refusal(vlen, file.len(), lmul, register) == 0 {
-        let start = (register as usize) * register_bytes(vlen);
-        let end = start + group_length(vlen, lmul);
-        return &mut file[start..end];
-    }
-    &mut file[0..0]
+    let p = part_of(vlen, file.len(), lmul, register);
+    let start = p.start;
+    let end = start + p.length;
+    &mut file[start..end]
+}
+
+// The same to read only.
+pub fn group_read<'a>(file: &'a [u8], vlen: u32, lmul: u32, register: u32) -> &'a [u8]
+    ensures { λ r. ⌜ (now r ≡ groupOf vlen (now (file .entry)) lmul register)
+        × (r .ptr .0 ≡ file .entry .ptr .0)
+        × (r .ptr .1 ≡ file .entry .ptr .1 + partStart vlen (length (now (file .entry))) lmul register) ⌝ }
+{
+    let p = part_of(vlen, file.len(), lmul, register);
+    let start = p.start;
+    let end = start + p.length;
+    &file[start..end]
 }

@@ -26,6 +26,9 @@ extern "C" {
         word: u32, vlen: u32, sew: u32, lmul: u32, vl: u32, vstart: *mut u32, scalar: u64, file: *mut u8, file_len: usize,
     ) -> u32;
     pub fn rvghash_group_refusal(vlen: u32, file_len: usize, lmul: u32, reg: u32) -> u32;
+    pub fn rvghash_group(
+        vlen: u32, file_len: usize, lmul: u32, reg: u32, start: *mut usize, length: *mut usize,
+    ) -> u32;
     fn rvghash_product_plain(
         key: *const u8, key_len: usize, block: *const u8, block_len: usize, out: *mut u8, out_len: usize,
     ) -> u32;
