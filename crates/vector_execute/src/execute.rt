@@ -12,7 +12,7 @@ use vector_element::clmul::Half;
 use vector_ghash::GhashMultiplier;
 use vector_ghash::ghash_vs;
 use vector_ghash::ghash_vv;
-use vector_refusal::refusal;
+use vector_refusal::refusal_of;
 use vector_registers::settings::Settings;
 use vector_word::Fields;
 use vector_word::Kind;
@@ -66,14 +66,15 @@ pub fn execute(word: u32, s: Settings, scalar: u64, file: &mut [u8]) -> Executed
         × (r .vstart ≡ vstartAfter (length (now (file .entry))) word s)
         × (now (file .exit) ≡ executed word s scalar (now (file .entry))) ⌝ }
 {
-    let number = refusal(file.len(), word, s);
+    let w = decode(word);
+    let number = refusal_of(file.len(), w, s);
     if number != 0 {
         return Executed {
             number,
             vstart: s.vstart,
         };
     }
-    run(decode(word), s, scalar, file);
+    run(w, s, scalar, file);
     Executed {
         number: 0,
         vstart: 0,

@@ -52,5 +52,9 @@ abbrev pub refusalOfWord : Word → Settings → ℕ
 refusalOfWord Unknown s = 2
 refusalOfWord (Known k f) s = refusalOfKnown k f s
 
+-- the number of a decoded word on a file of this length, and of a word
+abbrev pub refusalOfDecoded : ℕ → Word → Settings → ℕ
+refusalOfDecoded fileLength w s = cond (applies1 fileLength (s .vlen)) 1 (refusalOfWord w s)
+
 unfoldable pub refusalOf : ℕ → ℕ → Settings → ℕ
-refusalOf fileLength word s = cond (applies1 fileLength (s .vlen)) 1 (refusalOfWord (decode word) s)
+refusalOf fileLength word s = refusalOfDecoded fileLength (decode word) s

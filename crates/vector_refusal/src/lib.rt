@@ -3,7 +3,7 @@ ghost use mathlib.Core.Bool.{not, _&&_};
 ghost use mathlib.Core.Path.{_≡_};
 ghost use Rattle.vector_word.specs.Kinds.{isVs};
 ghost use Rattle.vector_registers.specs.Settings.{misaligned};
-ghost use Rattle.vector_refusal.specs.Refusal.{applies4, applies5, applies6, applies7, applies8, refusalOfKnown, refusalOfWord, refusalOf};
+ghost use Rattle.vector_refusal.specs.Refusal.{applies4, applies5, applies6, applies7, applies8, refusalOfKnown, refusalOfWord, refusalOfDecoded, refusalOf};
 use vector_registers::settings::Settings;
 use vector_registers::settings::applies_1;
 use vector_registers::settings::applies_3;
@@ -134,12 +134,19 @@ fn refusal_of_word(w: Word, s: Settings) -> u32
     }
 }
 
-// The number given for a word under the settings, on a file of this length: the smallest that applies, or 0.
-pub fn refusal(file_len: usize, word: u32, s: Settings) -> u32
-    ensures { λ r. ⌜ r ≡ refusalOf «file_len» word s ⌝ }
+// The number given for a decoded word under the settings, on a file of this length: the smallest that applies, or 0.
+pub fn refusal_of(file_len: usize, w: Word, s: Settings) -> u32
+    ensures { λ r. ⌜ r ≡ refusalOfDecoded «file_len» w s ⌝ }
 {
     if applies_1(file_len, s.vlen) {
         return 1;
     }
-    refusal_of_word(decode(word), s)
+    refusal_of_word(w, s)
+}
+
+// The same of a word.
+pub fn refusal(file_len: usize, word: u32, s: Settings) -> u32
+    ensures { λ r. ⌜ r ≡ refusalOf «file_len» word s ⌝ }
+{
+    refusal_of(file_len, decode(word), s)
 }
