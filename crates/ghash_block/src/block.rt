@@ -35,6 +35,13 @@ impl Block {
         Block(high, low)
     }
 
+    // A key's block.
+    pub fn of_key(h: Key) -> Block
+        ensures { λ r. ⌜ valueOf r ≡ keyOf h ⌝ }
+    {
+        Block(h.0, h.1)
+    }
+
     pub fn zero() -> Block
         ensures { λ r. ⌜ valueOf r ≡ 0 ⌝ }
     {
@@ -60,6 +67,13 @@ impl Key {
     {
         Key(high, low)
     }
+
+    // The key that a block is, as where it was read from bytes.
+    pub fn of_block(b: Block) -> Key
+        ensures { λ r. ⌜ keyOf r ≡ valueOf b ⌝ }
+    {
+        Key(b.0, b.1)
+    }
 }
 
 // The block in the 16 bytes from `at` on. Bytes past the end count as zeros, which is how A and C are padded.
@@ -76,8 +90,7 @@ pub fn block_at(s: &[u8], at: usize) -> Block
 pub fn key_at_start(s: &[u8]) -> Key
     ensures { λ r. ⌜ keyOf r ≡ blockAt (now (s .entry)) 0 ⌝ }
 {
-    let b = block_at(s, 0);
-    Key(b.0, b.1)
+    Key::of_block(block_at(s, 0))
 }
 
 // Writes the 16 bytes of a block from `at` on. Where they do not fit, nothing is written.

@@ -1,2 +1,3 @@
-// The elements of the GHASH field: blocks and keys.
+// The elements of the GHASH field: blocks and keys; and an answer with its number and block.
+pub mod answer;
 pub mod block;

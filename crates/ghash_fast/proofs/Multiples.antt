@@ -22,7 +22,7 @@ use Rattle.gf128.proofs.Xor.{xor-assoc, xor-shl}
 use Rattle.ghash_block.proofs.Halves.{halves-xor}
 use Rattle.ghash_block.specs.declared.block.Block.{Block}
 use Rattle.ghash_block.specs.Block.{valueOf}
-use Rattle.ghash_fast.specs.Table.{pairAt, nibble, fourOf, MultiplesPut, ReductionsIn, TablesTo}
+use Rattle.ghash_fast.specs.Table.{pairAt, nibble, fourOf, MultiplesPut, ReductionsAt, ReductionsIn, TablesTo}
 
 -- ---- the reductions
 
@@ -30,18 +30,15 @@ use Rattle.ghash_fast.specs.Table.{pairAt, nibble, fourOf, MultiplesPut,
 abbrev pub reduces : ℕ → ℕ → Bool
 reduces n e = eqb (e * 2 ^ 64) (shifted n 4) && eqb (e % 2 ^ 32) 0
 
-pub record Reduced (r : List ℕ) : Type 0 where
-  pub rule : (n : ℕ) → n < 16 → getD r n 0 * 2 ^ 64 ≡ shifted n 4
-  pub first : (n : ℕ) → n < 16 → getD r n 0 % 2 ^ 32 ≡ 0
-
-pub reduced : (r : List ℕ) → T (allBelow 16 (λ n. reduces n (getD r n 0))) → Reduced r
+pub reduced : (r : List ℕ) → T (allBelow 16 (λ n. reduces n (getD r (0 + n) 0))) → ReductionsAt 0 r
 reduced r passes = record {
-  rule = λ n h. eqb→eq (getD r n 0 * 2 ^ 64) (shifted n 4) (and-left (eqb (getD r n 0 * 2 ^ 64) (shifted n 4)) (eqb (getD r n 0 % 2 ^ 32) 0) (test n h));
-  first = λ n h. eqb→eq (getD r n 0 % 2 ^ 32) 0 (and-right (eqb (getD r n 0 * 2 ^ 64) (shifted n 4)) (eqb (getD r n 0 % 2 ^ 32) 0) (test n h));
+  overflow = λ n h.
+      let e = getD r (0 + n) 0 in eqb→eq (e * 2 ^ 64) (shifted n 4) (and-left (eqb (e * 2 ^ 64) (shifted n 4)) (eqb (e % 2 ^ 32) 0) (test n h));
+  zeros = λ n h. let e = getD r (0 + n) 0 in eqb→eq (e % 2 ^ 32) 0 (and-right (eqb (e * 2 ^ 64) (shifted n 4)) (eqb (e % 2 ^ 32) 0) (test n h));
 }
   where
-    test : (n : ℕ) → n < 16 → T (reduces n (getD r n 0))
-    test = allBelow-at 16 (λ n. reduces n (getD r n 0)) passes
+    test : (n : ℕ) → n < 16 → T (reduces n (getD r (0 + n) 0))
+    test = allBelow-at 16 (λ n. reduces n (getD r (0 + n) 0)) passes
 
 -- ---- four at a time
 
@@ -183,7 +180,7 @@ module _ (h h4 h2 h1 h12 : Block) (l8 : h .1 < 2 ^ 64) (l4 : h4 .1 < 2 ^ 64) (l2
 pub reductions-kept : (t t' : List ℕ) (at h : ℕ) → at ≤ 96 → MultiplesPut t at h 16 t' → ReductionsIn t → ReductionsIn t'
 reductions-kept t t' at h l m r = record {
   overflow = λ n ln. ap (λ (x : ℕ). x * 2 ^ 64) (m .above (128 + n) (omega arith)) ∙ r .overflow n ln;
-  first = λ n ln. ap (λ (x : ℕ). x % 2 ^ 32) (m .above (128 + n) (omega arith)) ∙ r .first n ln;
+  zeros = λ n ln. ap (λ (x : ℕ). x % 2 ^ 32) (m .above (128 + n) (omega arith)) ∙ r .zeros n ln;
 }
 
 pub no-table : (h : ℕ) (t : List ℕ) → ReductionsIn t → TablesTo 0 h t

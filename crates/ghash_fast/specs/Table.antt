@@ -17,11 +17,15 @@ pairAt t i = getD t i 0 * 2 ^ 64 + getD t (i + 1) 0
 abbrev pub nibble : ℕ → ℕ
 nibble n = n * 2 ^ 124
 
--- entry n: an overflow n is the block n, whose four coefficients at places 124 to 127 leave. Its reduction comes back in the
--- first coefficients, and 32 places later it is still whole in its half
-pub record ReductionsIn (t : List ℕ) : Type 0 where
-  pub overflow : (n : ℕ) → n < 16 → getD t (128 + n) 0 * 2 ^ 64 ≡ shifted n 4
-  pub first : (n : ℕ) → n < 16 → getD t (128 + n) 0 % 2 ^ 32 ≡ 0
+-- the sixteen reductions from `at` on. An overflow n is the block n, whose four coefficients at places 124 to 127 leave. Its reduction comes back in the
+-- first coefficients, and the last 32 of its half are zeros: 32 places later it is still whole in its half
+pub record ReductionsAt (at : ℕ) (t : List ℕ) : Type 0 where
+  pub overflow : (n : ℕ) → n < 16 → getD t (at + n) 0 * 2 ^ 64 ≡ shifted n 4
+  pub zeros : (n : ℕ) → n < 16 → getD t (at + n) 0 % 2 ^ 32 ≡ 0
+
+-- they are the array's last sixteen numbers
+abbrev pub ReductionsIn : List ℕ → Type 0
+ReductionsIn t = ReductionsAt 128 t
 
 -- the first k tables, entry n of table q, and the reductions
 pub record TablesTo (k h : ℕ) (t : List ℕ) : Type 0 where

@@ -8,15 +8,15 @@ ghost use Prim.Native.Nat.{ℕ, _+_, _*_, _%_, _^_, _≤_, _<_};
 ghost use lib.Bits.{bitXor};
 ghost use lib.ListN.{length};
 ghost use lib.Seq.{sets};
+ghost use Rattle.ghash_block.specs.Answer.{ProductAnswer};
 ghost use Rattle.ghash_block.specs.Block.{valueOf, keyOf};
 ghost use Rattle.ghash_fast.specs.Table.{TableOf, ReductionsIn, ReductionsPut, MultiplesPut, fourOf, nibble, entriesOf};
-ghost use Rattle.gf128.specs.Entries.{productRefusal, productBlock};
 ghost use Rattle.gf128.specs.Field.{product, shifted};
+use ghash_block::answer::Answer;
 use ghash_block::block::Block;
 use ghash_block::block::Key;
 use ghash_block::block::block_at;
 use ghash_block::block::key_at_start;
-use ghash_plain::Answer;
 use ghash_plain::times_x;
 
 // The numbers in a key's tables: four tables of sixteen blocks, then the reductions.
@@ -118,7 +118,7 @@ fn put_multiples(t: &mut [u64], at: usize, h: Block)
     let h4 = times_x(h);
     let h2 = times_x(h4);
     let h1 = times_x(h2);
-    put_four(t, at, Block(0, 0), h1, h2);
+    put_four(t, at, Block::ZERO, h1, h2);
     put_four(t, at + 8, h4, h1, h2);
     put_four(t, at + 16, h, h1, h2);
     put_four(t, at + 24, h.xor(h4), h1, h2);
@@ -129,7 +129,7 @@ pub fn fill_tables(t: &mut [u64; TABLES], h: Key)
     ensures { λ _. ⌜ TableOf (keyOf h) (now (t .exit)) ⌝ }
 {
     put_reductions(t);
-    let mut v = Block(h.0, h.1);
+    let mut v = Block::of_key(h);
     put_multiples(t, 0, v);
     let mut q: usize = 0;
     while q < 3 {
@@ -168,7 +168,7 @@ pub fn product_fast(t: &[u64; TABLES], u: Block) -> Block
     let mut b = high % 0x1_0000_0000;
     let mut c = low / 0x1_0000_0000;
     let mut d = low % 0x1_0000_0000;
-    let mut z = Block(0, 0);
+    let mut z = Block::ZERO;
     let mut e = entries(t, a % 16, b % 16, c % 16, d % 16);
     let mut i: u64 = 0;
     while i < 7 {
@@ -185,25 +185,15 @@ pub fn product_fast(t: &[u64; TABLES], u: Block) -> Block
 
 // The fast product of a key and a block given as bytes.
 pub fn product_fast_bytes(key: &[u8], block: &[u8]) -> Answer
-    ensures { λ r. ⌜ (r .number ≡ productRefusal (now (key .entry)) (now (block .entry)))
-        × (valueOf (r .block) ≡ productBlock (now (key .entry)) (now (block .entry))) ⌝ }
+    ensures { λ r. ⌜ ProductAnswer (now (key .entry)) (now (block .entry)) r ⌝ }
 {
     if key.len() != 16 {
-        return Answer {
-            number: 9,
-            block: Block::ZERO,
-        };
+        return Answer::refused(9);
     }
     if block.len() != 16 {
-        return Answer {
-            number: 9,
-            block: Block::ZERO,
-        };
+        return Answer::refused(9);
     }
     let mut t = [0u64; TABLES];
     fill_tables(&mut t, key_at_start(key));
-    Answer {
-        number: 0,
-        block: product_fast(&t, block_at(block, 0)),
-    }
+    Answer::done(product_fast(&t, block_at(block, 0)))
 }

@@ -110,7 +110,7 @@ fn turn(r: Rows) -> Rows
 pub fn inverse_of(h: Key) -> Inverse
     ensures { λ r. ⌜ Inverts (keyOf h) r ⌝ }
 {
-    let v = Block(h.0, h.1);
+    let v = Block::of_key(h);
     let d = degree(v);
     if d.number != 0 {
         return Inverse::ZeroKey;

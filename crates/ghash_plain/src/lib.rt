@@ -1,20 +1,14 @@
 // The plain product: document 01's definition, bit by bit.
 ghost use mathlib.Core.Path.{_≡_};
 ghost use Prim.Native.Nat.{_<_, _≤_};
+ghost use Rattle.ghash_block.specs.Answer.{ProductAnswer};
 ghost use Rattle.ghash_block.specs.Block.{valueOf, keyOf};
-ghost use Rattle.gf128.specs.Entries.{productRefusal, productBlock};
 ghost use Rattle.gf128.specs.Field.{coefficient, timesX, product};
+use ghash_block::answer::Answer;
 use ghash_block::block::Block;
 use ghash_block::block::Key;
 use ghash_block::block::block_at;
 use ghash_block::block::key_at_start;
-
-// Document 01's number, and the block, which is zero where the number is not. The block stands first, so that an answer
-// is not copied in pieces that cut it.
-pub struct Answer {
-    pub block: Block,
-    pub number: u32,
-}
 
 // The block times x.
 pub fn times_x(v: Block) -> Block
@@ -43,8 +37,8 @@ fn coefficient(u: Block, k: u64) -> u64
 pub fn product_plain(u: Block, h: Key) -> Block
     ensures { λ r. ⌜ valueOf r ≡ product (valueOf u) (keyOf h) ⌝ }
 {
-    let mut z = Block(0, 0);
-    let mut v = Block(h.0, h.1);
+    let mut z = Block::ZERO;
+    let mut v = Block::of_key(h);
     let mut k: u64 = 0;
     while k < 128 {
         if coefficient(u, k) == 1 {
@@ -58,23 +52,13 @@ pub fn product_plain(u: Block, h: Key) -> Block
 
 // The plain product of a key and a block given as bytes.
 pub fn product_plain_bytes(key: &[u8], block: &[u8]) -> Answer
-    ensures { λ r. ⌜ (r .number ≡ productRefusal (now (key .entry)) (now (block .entry)))
-        × (valueOf (r .block) ≡ productBlock (now (key .entry)) (now (block .entry))) ⌝ }
+    ensures { λ r. ⌜ ProductAnswer (now (key .entry)) (now (block .entry)) r ⌝ }
 {
     if key.len() != 16 {
-        return Answer {
-            number: 9,
-            block: Block::ZERO,
-        };
+        return Answer::refused(9);
     }
     if block.len() != 16 {
-        return Answer {
-            number: 9,
-            block: Block::ZERO,
-        };
+        return Answer::refused(9);
     }
-    Answer {
-        number: 0,
-        block: product_plain(block_at(block, 0), key_at_start(key)),
-    }
+    Answer::done(product_plain(block_at(block, 0), key_at_start(key)))
 }

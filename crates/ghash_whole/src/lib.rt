@@ -6,6 +6,7 @@ ghost use Rattle.ghash_block.specs.Block.{valueOf, keyOf};
 ghost use Rattle.ghash_whole.specs.Path.{Serves};
 ghost use Rattle.gf128.specs.Entries.{hashRefusal, hashBlock};
 ghost use Rattle.gf128.specs.Hash.{limit, next, over, blocksOf, lengthBlock, ghash};
+use ghash_block::answer::Answer;
 use ghash_block::block::Block;
 use ghash_block::block::Key;
 use ghash_block::block::block_at;
@@ -13,7 +14,6 @@ use ghash_block::block::key_at_start;
 use ghash_fast::TABLES;
 use ghash_fast::fill_tables;
 use ghash_fast::product_fast;
-use ghash_plain::Answer;
 use ghash_plain::product_plain;
 
 // Which product a call uses: the plain path is bit by bit, the fast path four coefficients at a time.

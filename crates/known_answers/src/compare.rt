@@ -7,9 +7,9 @@ ghost use lib.ListN.{length};
 use crate::pieces::Mix;
 use crate::pieces::in_pieces;
 use crate::tally::count;
+use ghash_block::answer::Answer;
 use ghash_block::block::Block;
 use ghash_block::block::put_block;
-use ghash_plain::Answer;
 use ghash_whole::ghash_fast;
 use ghash_whole::ghash_plain;
 

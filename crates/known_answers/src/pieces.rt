@@ -1,6 +1,6 @@
 // A message cut into pieces for the running hash.
 ghost use Prim.Native.Nat.{_<_, _≤_};
-use ghash_plain::Answer;
+use ghash_block::answer::Answer;
 use ghash_running::Fed;
 use ghash_running::Finished;
 use ghash_running::fed_a_fast;

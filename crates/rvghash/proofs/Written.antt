@@ -10,7 +10,7 @@ use lib.Dec.{eqb}
 use lib.ListN.{length, drop, drop-of-length-le}
 use lib.Seq.{sets, sets-eq}
 use Rattle.ghash_block.specs.Block.{valueOf}
-use Rattle.ghash_plain.specs.declared.Answer.{Answer}
+use Rattle.ghash_block.specs.declared.answer.Answer.{Answer}
 use Rattle.gf128.specs.Bytes.{blockBytes, putBlock}
 use Rattle.gf128.specs.Entries.{outNumber, outBytes}
 use Rattle.gf128.specs.Running.{State, finishRefusal, afterFinish, finishBlock}

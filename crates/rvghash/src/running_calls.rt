@@ -6,7 +6,7 @@ ghost use Rattle.ghash_block.specs.Block.{valueOf};
 ghost use Rattle.gf128.specs.Entries.{outNumber, outBytes};
 ghost use Rattle.rvghash.specs.Lent.{FeedsA, FeedsC, FinishesInto, stateFor};
 use crate::out::put_answer;
-use ghash_plain::Answer;
+use ghash_block::answer::Answer;
 use ghash_running::Fed;
 use ghash_running::Finished;
 use ghash_running::fed_a_fast;

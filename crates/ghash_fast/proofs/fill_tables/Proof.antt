@@ -1,12 +1,12 @@
 -- `fill_tables` fills the tables. The loop's invariant: after q rounds the first q + 1 tables stand, and v is the key times x ^ (32 · q).
 -- Assumes nothing.
-use mathlib.Core.Path.{_≡_, refl, sym, ap, _∙_, subst}
+use mathlib.Core.Path.{_≡_, refl, sym, ap, _∙_, subst₂}
 use Prim.Native.Nat.{ℕ, _+_, _-_, _*_, _≤_}
 use native.Mathlib.Omega.{arith}
 use borrow.Author.Needs.{needs}
 use Rattle.gf128.specs.Field.{reduction, shiftedOf, shifted}
 use Rattle.gf128.proofs.Places.{shiftedOf-add}
-use Rattle.ghash_block.specs.Block.{valueOf, keyOf}
+use Rattle.ghash_block.specs.Block.{valueOf}
 use Rattle.ghash_fast.specs.Table.{TablesTo}
 use Rattle.ghash_fast.proofs.Multiples.{no-table, next-table}
 use Rattle.ghash_fast.proofs.fill_tables.Statement.{statement}
@@ -21,13 +21,16 @@ abbrev μ-loop : tie.MeasureT-loop
 put-reductions-requires : tie.Need-put-reductions-requires Inv-loop μ-loop
 put-reductions-requires c κs = search needs
 
+of-key-requires : tie.Need-of-key-requires Inv-loop μ-loop
+of-key-requires c κs = search needs
+
 put-multiples-requires : tie.Need-put-multiples-requires Inv-loop μ-loop
 put-multiples-requires c κs = search needs
 
 loop-holds : tie.Need-loop-holds Inv-loop μ-loop
 unfolding shiftedOf
 loop-holds c =
-    (search needs, next-table 0 _ _ _ _ (omega arith) (no-table _ _ (c .before .before .put-reductions .ensures .reductions)) refl (c .put-multiples .ensures), refl)
+    (search needs, next-table 0 _ _ _ _ (omega arith) (no-table _ _ (c .before .before .before .put-reductions .ensures .reductions)) refl (c .put-multiples .ensures), refl)
 
 times-x32-requires : tie.Need-times-x32-requires Inv-loop μ-loop
 times-x32-requires c κs = search needs
@@ -57,9 +60,10 @@ loop-again c =
 
 returns : tie.Need-returns Inv-loop μ-loop
 returns c =
-    let h = c .before .before .before .before .before .before .args .h in
+    let key = c .before .before .before .before .of-key in
     let t = c .before .loop .t in
-    let all : c .before .loop .q ≡ 3 = omega arith in record { whole = subst (λ (q : ℕ). TablesTo (q + 1) (keyOf h) t) all (c .before .loop .inv .1) }
+    let all : c .before .loop .q ≡ 3 = omega arith in
+    record { whole = subst₂ (λ (q h : ℕ). TablesTo (q + 1) h t) all (key .ensures) (c .before .loop .inv .1) }
 
 pub fill-tables-spec : {M : Type 1} → statement M
 fill-tables-spec =
@@ -68,6 +72,7 @@ fill-tables-spec =
     Inv-loop
     μ-loop
     put-reductions-requires
+    of-key-requires
     put-multiples-requires
     loop-holds
     times-x32-requires

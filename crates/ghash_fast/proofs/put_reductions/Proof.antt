@@ -3,19 +3,21 @@
 -- Assumes nothing.
 use mathlib.Core.Path.{_≡_, refl, ap, _∙_}
 use Prim.Native.Nat.{ℕ, _+_, _-_, _*_, _%_, _^_, _≤_, _<_}
+use native.Mathlib.Nat.{zero-add}
 use native.Mathlib.Omega.{arith}
 use lib.ListN.{length, getD}
 use lib.Seq.{getD-set-same, getD-set-other}
 use borrow.Author.Count.{below-none, below-more}
 use borrow.Author.Needs.{needs}
 use Rattle.gf128.specs.Field.{timesXOf, shiftedOf}
-use Rattle.ghash_fast.proofs.Multiples.{Reduced, reduced}
+use Rattle.ghash_fast.specs.Table.{ReductionsAt}
+use Rattle.ghash_fast.proofs.Multiples.{reduced}
 use Rattle.ghash_fast.proofs.put_reductions.Statement.{statement}
 use Rattle.ghash_fast.proofs.put_reductions.Tie as tie
 
 abbrev Inv-loop : tie.InvT-loop
 Inv-loop t₀ r n₀ t n =
-    (n ≤ 16) × (length t ≡ 144) × Reduced r × ((k : ℕ) → k < n → getD t (128 + k) 0 ≡ getD r k 0)
+    (n ≤ 16) × (length t ≡ 144) × ReductionsAt 0 r × ((k : ℕ) → k < n → getD t (128 + k) 0 ≡ getD r (0 + k) 0)
     × ((k : ℕ) → k < 128 → getD t k 0 ≡ getD t₀ k 0)
 
 abbrev μ-loop : tie.MeasureT-loop
@@ -54,7 +56,7 @@ loop-again c =
       search needs,
       search needs,
       inv .2,
-      below-more _ _ (λ k h. getD-set-other t (128 + n) (128 + k) _ 0 (omega arith) ∙ inv .3 k h) (getD-set-same t (128 + n) _ 0 (omega arith)),
+      below-more _ _ (λ k h. getD-set-other t (128 + n) (128 + k) _ 0 (omega arith) ∙ inv .3 k h) (rw (zero-add n) (getD-set-same t (128 + n) _ 0 (omega arith))),
       λ k h. getD-set-other t (128 + n) k _ 0 (omega arith) ∙ inv .4 k h,
     )
 
@@ -66,8 +68,8 @@ returns c =
     let inv = c .before .loop .inv in
     record {
       reductions = record {
-        overflow = λ n h. ap (λ (x : ℕ). x * 2 ^ 64) (inv .3 n (omega arith)) ∙ inv .2 .rule n h;
-        first = λ n h. ap (λ (x : ℕ). x % 2 ^ 32) (inv .3 n (omega arith)) ∙ inv .2 .first n h;
+        overflow = λ n h. ap (λ (x : ℕ). x * 2 ^ 64) (inv .3 n (omega arith)) ∙ inv .2 .overflow n h;
+        zeros = λ n h. ap (λ (x : ℕ). x % 2 ^ 32) (inv .3 n (omega arith)) ∙ inv .2 .zeros n h;
       };
       below = inv .4;
     }

@@ -67,7 +67,7 @@ loop-again c =
           let zr : high % 2 ^ (l + 4) ≡ 0 = ap (λ (x : ℕ). high % 2 ^ x) (sym zeros) ∙ inv .2 reductions .0 in
           let few : 4 * (i + 1) + l ≡ 32 = omega arith in
           let ln : n < 16 = search needs in (
-            overflow-ends reduction v (4 * i) l 64 high e er zr (ends-sooner e (4 * (i + 1)) l few (reductions .first n ln)),
+            overflow-ends reduction v (4 * i) l 64 high e er zr (ends-sooner e (4 * (i + 1)) l few (reductions .zeros n ln)),
             overflow-more reduction v (4 * i) l 64 high e er zr (reductions .overflow n ln ∙ ap (λ (x : ℕ). shifted (x % 2 ^ 4) 4) (inv .1))
                 ∙ ap₂ (λ (x y : ℕ). shifted (v % 2 ^ x) y) next next,
           ),

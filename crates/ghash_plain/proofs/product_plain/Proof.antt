@@ -7,7 +7,7 @@ use lib.Bits.{bitXor}
 use Rattle.ghash_plain.proofs.Steps.{next-shifted, added, kept}
 use Prim.Native.Nat.{_≤_, _-_}
 use native.Mathlib.Omega.{arith}
-use Rattle.ghash_block.specs.Block.{valueOf, keyOf}
+use Rattle.ghash_block.specs.Block.{valueOf}
 use Rattle.gf128.specs.Field.{sumOf, shifted, shiftedOf, timesX, reduction, productOf}
 use Rattle.ghash_plain.proofs.product_plain.Statement.{statement}
 use Rattle.ghash_plain.proofs.product_plain.Tie as tie
@@ -18,6 +18,9 @@ Inv-loop u z₀ v₀ k₀ z v k =
 
 abbrev μ-loop : tie.MeasureT-loop
 μ-loop u z₀ v₀ k₀ z v k = 128 - k
+
+of-key-requires : tie.Need-of-key-requires Inv-loop μ-loop
+of-key-requires c κs = search needs
 
 loop-holds : tie.Need-loop-holds Inv-loop μ-loop
 unfolding sumOf shiftedOf
@@ -41,8 +44,9 @@ loop-less c = omega arith
 loop-again : tie.Need-loop-again Inv-loop μ-loop
 loop-again c =
     let k = c .before .before .before .before .loop .k in
-    let u = valueOf (c .before .before .before .before .before .args .u) in
-    let h = keyOf (c .before .before .before .before .before .args .h) in
+    let start = c .before .before .before .before .before in
+    let u = valueOf (start .before .args .u) in
+    let h = valueOf (start .of-key .result) in
     let inv = c .before .before .before .before .loop .inv in (
       omega arith,
       ⊎-elim
@@ -56,8 +60,10 @@ loop-again c =
 returns : tie.Need-returns Inv-loop μ-loop
 unfolding productOf
 returns c =
+    let start = c .before .before in
+    let u = valueOf (start .before .args .u) in
     let e : c .before .loop .k ≡ 128 = omega arith in
-    c .before .loop .inv .1 ∙ ap (sumOf 127 reduction (valueOf (c .before .before .args .u)) (keyOf (c .before .before .args .h))) e
+    c .before .loop .inv .1 ∙ ap₂ (sumOf 127 reduction u) (start .of-key .ensures) e
 
 pub product-plain-spec : {M : Type 1} → statement M
 product-plain-spec =
@@ -65,6 +71,7 @@ product-plain-spec =
     (tie.spec
     Inv-loop
     μ-loop
+    of-key-requires
     loop-holds
     coefficient-requires
     xor-requires

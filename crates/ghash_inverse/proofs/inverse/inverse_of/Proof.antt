@@ -5,7 +5,7 @@ use mathlib.Core.Path.{sym, _∙_}
 use mathlib.Core.Logic.{_≢_}
 use Prim.Native.Nat.{ℕ, _+_, _<_}
 use native.Mathlib.Omega.{arith}
-use Rattle.ghash_block.specs.Block.{keyOf}
+use Rattle.ghash_block.specs.Block.{valueOf}
 use Rattle.gf128.proofs.Division.{degree-refused, degree-given, degree-one}
 use Rattle.gf128.proofs.Field.{product-one-left}
 use Rattle.ghash_inverse.specs.Inverse.{RowsOf}
@@ -23,13 +23,17 @@ abbrev μ-loop : tie.MeasureT-loop
 positive : (n : ℕ) → n ≢ 0 → 0 < n
 positive n h = omega arith
 
+of-key-requires : tie.Need-of-key-requires Inv-loop μ-loop
+of-key-requires c κs = search needs
+
 -- past the test of the number
-key-positive : (c : tie.Else1 Inv-loop μ-loop) → keyOf (c .before .before .before .args .h) ≢ 0
+key-positive : (c : tie.Else1 Inv-loop μ-loop) → valueOf (c .before .before .before .of-key .result) ≢ 0
 key-positive c =
-    degree-given (keyOf (c .before .before .before .args .h)) (sym (c .before .before .degree .ensures .0) ∙ c .if1 .left)
+    degree-given (valueOf (c .before .before .before .of-key .result)) (sym (c .before .before .degree .ensures .0) ∙ c .if1 .left)
 
 -- at the loop's head
-rows-of : (c : tie.At-loop Inv-loop μ-loop) → RowsOf (keyOf (c .before .before .before .before .before .before .before .before .args .h)) (c .loop .rows)
+rows-of : (c : tie.At-loop Inv-loop μ-loop)
+    → RowsOf (valueOf (c .before .before .before .before .before .before .before .before .of-key .result)) (c .loop .rows)
 rows-of c = c .loop .inv _ (c .before .start .ensures (key-positive (c .before .before .before .before .before)))
 
 degree-requires : tie.Need-degree-requires Inv-loop μ-loop
@@ -37,15 +41,19 @@ degree-requires c κs = search needs
 
 returns : tie.Need-returns Inv-loop μ-loop
 returns c =
-    degree-refused (keyOf (c .before .before .before .args .h)) (λ z. c .if1 .taken (c .before .before .degree .ensures .0 ∙ z))
+    let key = c .before .before .before .of-key in
+    sym (key .ensures) ∙ degree-refused (valueOf (key .result)) (λ z. c .if1 .taken (c .before .before .degree .ensures .0 ∙ z))
 
 returns-2 : tie.Need-returns-2 Inv-loop μ-loop
 returns-2 c =
     let at = c .before .before in
-    let h = at .before .before .before .args .h in
-    let n = key-positive at in (
-      product-one-left (keyOf h)
-          ∙ degree-one (keyOf h) (halves-lt 64 (h .0) (h .1) (omega arith) (omega arith)) n (sym (at .before .before .degree .ensures .1) ∙ c .if2 .taken),
+    let key = at .before .before .before .of-key in
+    let v = key .result in
+    let n = key-positive at in
+    rw (← key .ensures) (
+      product-one-left (valueOf v)
+          ∙ degree-one (valueOf v) (halves-lt 64 (v .0) (v .1) (omega (arith, key .ok)) (omega (arith, key .ok))) n
+          (sym (at .before .before .degree .ensures .1) ∙ c .if2 .taken),
       n,
     )
 
@@ -74,7 +82,9 @@ loop-again c h r =
     c .turn .ensures h (at .loop .inv h r) (positive (at .loop .rows .first .degree) (c .before .if3 .taken)) .0
 
 returns-3 : tie.Need-returns-3 Inv-loop μ-loop
-returns-3 c = ended (rows-of (c .before .before .before .before)) (c .before .before .if3 .left)
+returns-3 c =
+    let at = c .before .before .before .before in
+    rw (← at .before .before .before .before .before .before .before .before .of-key .ensures) (ended (rows-of at) (c .before .before .if3 .left))
 
 pub inverse-of-spec : {M : Type 1} → statement M
 inverse-of-spec =
@@ -82,6 +92,7 @@ inverse-of-spec =
     (tie.spec
     Inv-loop
     μ-loop
+    of-key-requires
     degree-requires
     returns
     returns-2

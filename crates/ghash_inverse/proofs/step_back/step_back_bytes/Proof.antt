@@ -12,7 +12,7 @@ returns : tie.Need-returns
 returns c =
     let args = c .before .before .before .before .before .args in
     record {
-      refused = λ e. c .refused .ensures;
+      refused = λ e. (c .refused .ensures .answer, c .refused .ensures .block);
       done = λ e. absurd (c .before .if1 .taken (lengths-right (now (args .key)) (now (args .block)) (now (args .later)) e .0));
     }
 
@@ -23,7 +23,7 @@ returns-2 : tie.Need-returns-2
 returns-2 c =
     let args = c .before .before .before .before .before .before .args in
     record {
-      refused = λ e. c .refused2 .ensures;
+      refused = λ e. (c .refused2 .ensures .answer, c .refused2 .ensures .block);
       done = λ e. absurd (c .before .if2 .taken (lengths-right (now (args .key)) (now (args .block)) (now (args .later)) e .1));
     }
 
@@ -34,7 +34,7 @@ returns-3 : tie.Need-returns-3
 returns-3 c =
     let args = c .before .before .before .before .before .before .before .args in
     record {
-      refused = λ e. c .refused3 .ensures;
+      refused = λ e. (c .refused3 .ensures .answer, c .refused3 .ensures .block);
       done = λ e. absurd (c .before .if3 .taken (lengths-right (now (args .key)) (now (args .block)) (now (args .later)) e .2));
     }
 
@@ -62,7 +62,7 @@ returns-4 c =
     record {
       refused = λ e. absurd (lengths-refused (now (args .key)) (now (args .block)) (now (args .later)) (ifs .before .before .if1 .left)
           (ifs .before .if2 .left) (ifs .if3 .left) e);
-      done = λ e. rw (c .answer-of .ensures .0, c .answer-of .ensures .1, ← read .key-at-start .ensures, ← at .before .block-at .ensures, ← at .block-at2 .ensures)
+      done = λ e. rw (c .answer-of .ensures .answer, c .answer-of .ensures .block, ← read .key-at-start .ensures, ← at .before .block-at .ensures, ← at .block-at2 .ensures)
           (c .before .step-back .ensures);
     }
 
