@@ -92,9 +92,8 @@ def rattle_parameter(name, kind):
         return [(name, f"{const}uint8_t *"), (f"{name}_len", "size_t")]
     if kind == "&mut Running":
         return [(name, f"{STRUCT} *")]
-    if kind.startswith("&mut "):
-        return [(name, NUMBER_TYPES[kind[5:]] + " *")]
-    return [(name, NUMBER_TYPES[kind])]
+    number, pointer = (kind[5:], " *") if kind.startswith("&mut ") else (kind, "")
+    return [(name, NUMBER_TYPES.get(number, f"no C type for {kind}") + pointer)]
 
 
 def of_library():
