@@ -15,8 +15,9 @@ import re
 import sys
 
 PAGE = "docs/STATEMENTS.md"
-LITERALS = {"requires", "&mut", "out", "memset", "axioms=", "logic-built=trusted", "libraries-built=trusted", "rt ci", "rt version",
-            "librvghash.a", "struct rvghash_running", "NULL", "N passed, 0 failed"}
+LITERALS = {"requires", "&mut", "out", "memset", "axioms=", "logic-built=trusted", "libraries-built=trusted",
+            "logic-built=trusted libraries-built=trusted", "rt ci", "rt staticlib rvghash", "rt version", "librvghash.a",
+            "struct rvghash_running", "NULL", "N passed, 0 failed"}
 MODIFIERS = r"(?:(?:unfoldable|abbrev|pub|private|data|record) )*"
 
 
@@ -32,8 +33,8 @@ EDITS = {(path.split("/")[1], os.path.basename(path)[:-5]) for path in glob.glob
 
 
 def declares(file, name):
-    """Whether an antt file has a declaration of this name: the first word of a line, with a colon after it."""
-    return re.search(rf"^\s*{MODIFIERS}{re.escape(name)}(?=\s)(?:[^=]|\n\s)*?\s:\s", read(file), re.M) is not None
+    """Whether an antt file declares this name: the first word of a line, with a colon on it or on the indented lines after it."""
+    return re.search(rf"^ *{MODIFIERS}{re.escape(name)}(?=\s)[^=\n]*(?:\n +[^=\n]*)*?\s:\s", read(file), re.M) is not None
 
 
 def has_function(crate, modules, name):
