@@ -5,8 +5,8 @@
  * The rules of every call:
  * - Overlap. What a call may write overlaps nothing else that is lent to it. What it only reads may overlap.
  * - Pointers. A length that goes with a pointer is a number of bytes. Where it is 0 the pointer may be anything, NULL
- *   too; else it points to that many bytes, at any alignment. A pointer without a length (vstart, degree, state) is
- *   not NULL and has the alignment of what it points to: 4 bytes for a uint32_t, 8 for a running hash.
+ *   too; else it points to that many bytes, at any alignment. A pointer without a length (vstart, degree, start,
+ *   length, state) is not NULL and has the alignment of its type: 4 bytes for a uint32_t, 8 for a running hash.
  * - Threads. No function allocates, blocks, keeps a pointer after it returns, or has state of its own. Each may run in
  *   any thread, on any core and in a handler, and at the same time as any other call, as long as no call writes
  *   memory that another one reads or writes.
