@@ -5,8 +5,8 @@ ghost use lib.Dec.{eqb};
 ghost use Rattle.ghash_block.specs.Block.{keyOf};
 ghost use Rattle.ghash_whole.specs.Path.{Serves};
 ghost use Rattle.ghash_state.specs.State.{view, held, partOf};
-ghost use Rattle.ghash_running.specs.Answers.{Feeds, Finishes};
-ghost use Rattle.gf128.specs.Running.{startedC, feedARefusal, feedCRefusal, finishRefusal, afterFeedA, afterFeedC, afterFinish, finishBlock};
+ghost use Rattle.ghash_running.specs.Answers.{FeedsA, FeedsC, Finishes};
+ghost use Rattle.gf128.specs.Running.{startedC, finishRefusal};
 use ghash_block::block::Block;
 use ghash_block::block::Key;
 use ghash_block::block::key_at_start;
@@ -76,8 +76,7 @@ fn feed_refused(number: u32, before: Running) -> Fed
 }
 
 fn fed_a_on(path: Path, state: Running, key: &[u8], piece: &[u8]) -> Fed
-    ensures { λ r. ⌜ Feeds (feedARefusal (now (key .entry)) (view state) (now (piece .entry)))
-        (afterFeedA (now (key .entry)) (view state) (now (piece .entry))) state (r .number) (r .state) ⌝ }
+    ensures { λ r. ⌜ FeedsA (now (key .entry)) state (now (piece .entry)) (r .number) (r .state) ⌝ }
 {
     let number = call_refusal(state, key);
     if number != 0 {
@@ -95,16 +94,8 @@ fn fed_a_on(path: Path, state: Running, key: &[u8], piece: &[u8]) -> Fed
     let mut t = [0u64; TABLES];
     put_tables(path, h, &mut t);
     let p = absorb(path, h, &t, n, part_of(state), piece);
-    let y = p.y;
-    let bytes = p.bytes;
     let a_count = a_total as u32;
-    let after = Running {
-        y,
-        open_block: bytes,
-        a_count,
-        c_count: state.c_count,
-        phase: 0,
-    };
+    let after = Running::of(p, a_count, state.c_count, 0);
     Fed {
         number: 0,
         state: after,
@@ -113,23 +104,20 @@ fn fed_a_on(path: Path, state: Running, key: &[u8], piece: &[u8]) -> Fed
 
 // Feeds a piece of A on the plain path. Document 01's number; on a refusal the running hash comes back as it was.
 pub fn fed_a_plain(state: Running, key: &[u8], piece: &[u8]) -> Fed
-    ensures { λ r. ⌜ Feeds (feedARefusal (now (key .entry)) (view state) (now (piece .entry)))
-        (afterFeedA (now (key .entry)) (view state) (now (piece .entry))) state (r .number) (r .state) ⌝ }
+    ensures { λ r. ⌜ FeedsA (now (key .entry)) state (now (piece .entry)) (r .number) (r .state) ⌝ }
 {
     fed_a_on(Path::Plain, state, key, piece)
 }
 
 // The same on the fast path.
 pub fn fed_a_fast(state: Running, key: &[u8], piece: &[u8]) -> Fed
-    ensures { λ r. ⌜ Feeds (feedARefusal (now (key .entry)) (view state) (now (piece .entry)))
-        (afterFeedA (now (key .entry)) (view state) (now (piece .entry))) state (r .number) (r .state) ⌝ }
+    ensures { λ r. ⌜ FeedsA (now (key .entry)) state (now (piece .entry)) (r .number) (r .state) ⌝ }
 {
     fed_a_on(Path::Fast, state, key, piece)
 }
 
 fn fed_c_on(path: Path, state: Running, key: &[u8], piece: &[u8]) -> Fed
-    ensures { λ r. ⌜ Feeds (feedCRefusal (now (key .entry)) (view state) (now (piece .entry)))
-        (afterFeedC (now (key .entry)) (view state) (now (piece .entry))) state (r .number) (r .state) ⌝ }
+    ensures { λ r. ⌜ FeedsC (now (key .entry)) state (now (piece .entry)) (r .number) (r .state) ⌝ }
 {
     let number = call_refusal(state, key);
     if number != 0 {
@@ -144,16 +132,8 @@ fn fed_c_on(path: Path, state: Running, key: &[u8], piece: &[u8]) -> Fed
     let mut t = [0u64; TABLES];
     put_tables(path, h, &mut t);
     let p = absorb(path, h, &t, n, started_c(path, h, &t, state), piece);
-    let y = p.y;
-    let bytes = p.bytes;
     let c_count = c_total as u32;
-    let after = Running {
-        y,
-        open_block: bytes,
-        a_count: state.a_count,
-        c_count,
-        phase: 1,
-    };
+    let after = Running::of(p, state.a_count, c_count, 1);
     Fed {
         number: 0,
         state: after,
@@ -162,16 +142,14 @@ fn fed_c_on(path: Path, state: Running, key: &[u8], piece: &[u8]) -> Fed
 
 // Feeds a piece of C on the plain path; the first, even of length 0, ends A.
 pub fn fed_c_plain(state: Running, key: &[u8], piece: &[u8]) -> Fed
-    ensures { λ r. ⌜ Feeds (feedCRefusal (now (key .entry)) (view state) (now (piece .entry)))
-        (afterFeedC (now (key .entry)) (view state) (now (piece .entry))) state (r .number) (r .state) ⌝ }
+    ensures { λ r. ⌜ FeedsC (now (key .entry)) state (now (piece .entry)) (r .number) (r .state) ⌝ }
 {
     fed_c_on(Path::Plain, state, key, piece)
 }
 
 // The same on the fast path.
 pub fn fed_c_fast(state: Running, key: &[u8], piece: &[u8]) -> Fed
-    ensures { λ r. ⌜ Feeds (feedCRefusal (now (key .entry)) (view state) (now (piece .entry)))
-        (afterFeedC (now (key .entry)) (view state) (now (piece .entry))) state (r .number) (r .state) ⌝ }
+    ensures { λ r. ⌜ FeedsC (now (key .entry)) state (now (piece .entry)) (r .number) (r .state) ⌝ }
 {
     fed_c_on(Path::Fast, state, key, piece)
 }
@@ -187,8 +165,7 @@ fn current_count(state: Running) -> u32
 }
 
 fn finished_on(path: Path, state: Running, key: &[u8]) -> Finished
-    ensures { λ r. ⌜ Finishes (finishRefusal (now (key .entry)) (view state)) (afterFinish (now (key .entry)) (view state))
-        (finishBlock (now (key .entry)) (view state)) state r ⌝ }
+    ensures { λ r. ⌜ Finishes (now (key .entry)) state (r .number) (r .state) (r .block) ⌝ }
 {
     let number = call_refusal(state, key);
     if number != 0 {
@@ -205,13 +182,11 @@ fn finished_on(path: Path, state: Running, key: &[u8]) -> Finished
     let y = p.y;
     let lengths = length_block(state.a_count as usize, state.c_count as usize);
     let hash = next(path, h, &t, y, lengths);
-    let after = Running {
+    let none = Part {
         y: hash,
-        open_block: [0u8; 16],
-        a_count: state.a_count,
-        c_count: state.c_count,
-        phase: 2,
+        bytes: [0u8; 16],
     };
+    let after = Running::of(none, state.a_count, state.c_count, 2);
     Finished {
         number: 0,
         state: after,
@@ -221,16 +196,14 @@ fn finished_on(path: Path, state: Running, key: &[u8]) -> Finished
 
 // Finishes on the plain path: the hash, which is then also Y.
 pub fn finished_plain(state: Running, key: &[u8]) -> Finished
-    ensures { λ r. ⌜ Finishes (finishRefusal (now (key .entry)) (view state)) (afterFinish (now (key .entry)) (view state))
-        (finishBlock (now (key .entry)) (view state)) state r ⌝ }
+    ensures { λ r. ⌜ Finishes (now (key .entry)) state (r .number) (r .state) (r .block) ⌝ }
 {
     finished_on(Path::Plain, state, key)
 }
 
 // The same on the fast path.
 pub fn finished_fast(state: Running, key: &[u8]) -> Finished
-    ensures { λ r. ⌜ Finishes (finishRefusal (now (key .entry)) (view state)) (afterFinish (now (key .entry)) (view state))
-        (finishBlock (now (key .entry)) (view state)) state r ⌝ }
+    ensures { λ r. ⌜ Finishes (now (key .entry)) state (r .number) (r .state) (r .block) ⌝ }
 {
     finished_on(Path::Fast, state, key)
 }

@@ -6,8 +6,8 @@ ghost use lib.Dec.{eqb};
 ghost use lib.ListN.{drop};
 ghost use Rattle.ghash_block.specs.Block.{valueOf, keyOf};
 ghost use Rattle.ghash_whole.specs.Path.{Serves};
-ghost use Rattle.ghash_state.specs.State.{view, partOf, opened};
-ghost use Rattle.gf128.specs.Running.{fresh, allZero, openBytes, malformed, push, pushed, closed};
+ghost use Rattle.ghash_state.specs.State.{view, stateOf, spareZeros, Fresh, partOf, noneOpen};
+ghost use Rattle.gf128.specs.Running.{allZero, openBytes, malformed, push, pushed, closed};
 use ghash_block::block::Block;
 use ghash_block::block::Key;
 use ghash_block::block::block_at;
@@ -17,7 +17,8 @@ use ghash_whole::Path;
 use ghash_whole::next;
 use ghash_whole::over_blocks;
 
-// Y, the open block, the bytes of A and of C so far, and the phase: 0 takes A, 1 takes C, 2 is finished.
+// Y, the open block, the bytes of A and of C so far, and the phase: 0 takes A, 1 takes C, 2 is finished. The spare bytes
+// fill the struct up, so that no byte of a caller's struct is left to chance.
 #[repr(C)]
 pub struct Running {
     pub y: Block,
@@ -25,6 +26,7 @@ pub struct Running {
     pub a_count: u32,
     pub c_count: u32,
     pub phase: u8,
+    pub spare: [u8; 7],
 }
 
 // Y and the open block.
@@ -35,14 +37,28 @@ pub struct Part {
 
 impl Running {
     pub fn new() -> Running
-        ensures { λ r. ⌜ view r ≡ fresh ⌝ }
+        ensures { λ r. ⌜ Fresh r ⌝ }
     {
-        Running {
+        let none = Part {
             y: Block::ZERO,
-            open_block: [0u8; 16],
-            a_count: 0,
-            c_count: 0,
-            phase: 0,
+            bytes: [0u8; 16],
+        };
+        Running::of(none, 0, 0, 0)
+    }
+
+    // What a call that is done leaves: its spare bytes are zeros.
+    pub fn of(p: Part, a_count: u32, c_count: u32, phase: u8) -> Running
+        ensures { λ r. ⌜ (view r ≡ stateOf (partOf p) «a_count» «c_count» phase) × (r .spare ≡ spareZeros) ⌝ }
+    {
+        let y = p.y;
+        let bytes = p.bytes;
+        Running {
+            y,
+            open_block: bytes,
+            a_count,
+            c_count,
+            phase,
+            spare: [0u8; 7],
         }
     }
 }
@@ -141,7 +157,7 @@ fn push_run(path: Path, key: Key, t: &[u64; TABLES], place: usize, p: Part, s: &
 
 // Bytes from a block's start, where no byte is open: whole blocks straight from the slice, then the rest.
 fn push_from_start(path: Path, key: Key, t: &[u64; TABLES], y: Block, s: &[u8]) -> Part
-    ensures { λ r. ⌜ (Serves path key (now (t .entry)) → partOf r ≡ pushed (keyOf key) 0 (opened (valueOf y)) (now (s .entry))) ⌝ }
+    ensures { λ r. ⌜ (Serves path key (now (t .entry)) → partOf r ≡ pushed (keyOf key) 0 (noneOpen (valueOf y)) (now (s .entry))) ⌝ }
 {
     let whole = s.len() / 16 * 16;
     let part = Part {

@@ -3,7 +3,7 @@ ghost use mathlib.Core.Path.{_≡_};
 ghost use Prim.Native.Nat.{_≤_};
 ghost use lib.ListN.{length};
 ghost use Rattle.ghash_block.specs.Block.{valueOf, keyOf};
-ghost use Rattle.ghash_whole.specs.Path.{Serves};
+ghost use Rattle.ghash_whole.specs.Path.{Serves, TablesPut};
 ghost use Rattle.gf128.specs.Entries.{hashRefusal, hashBlock};
 ghost use Rattle.gf128.specs.Hash.{limit, next, over, blocksOf, lengthBlock, ghash};
 use ghash_block::answer::Answer;
@@ -25,10 +25,10 @@ pub enum Path {
 // The most bytes that A may have, and C.
 pub const LIMIT: usize = 1048576;
 
-// Fills the tables that a call on this path multiplies with; the plain path needs none. They are lent, since a
-// returned array would be copied.
+// Fills the tables that a call on this path multiplies with; the plain path needs none and leaves them. They are lent,
+// since a returned array would be copied.
 pub fn put_tables(path: Path, key: Key, t: &mut [u64; TABLES])
-    ensures { λ _. ⌜ Serves path key (now (t .exit)) ⌝ }
+    ensures { λ _. ⌜ TablesPut path key (now (t .entry)) (now (t .exit)) ⌝ }
 {
     match path {
         Path::Plain => {}
@@ -64,7 +64,7 @@ pub fn length_block(a: usize, c: usize) -> Block
     requires { ⌜ (a ≤ limit) × (c ≤ limit) ⌝ }
     ensures { λ r. ⌜ valueOf r ≡ lengthBlock a c ⌝ }
 {
-    Block(8 * a as u64, 8 * c as u64)
+    Block::new(8 * a as u64, 8 * c as u64)
 }
 
 // The hash of an A and a C within the limit.

@@ -13,16 +13,15 @@ use Rattle.ghash_block.specs.Block.{valueOf}
 use Rattle.ghash_block.specs.declared.answer.Answer.{Answer}
 use Rattle.gf128.specs.Bytes.{blockBytes, putBlock}
 use Rattle.gf128.specs.Entries.{outNumber, outBytes}
-use Rattle.gf128.specs.Running.{State, finishRefusal, afterFinish, finishBlock}
+use Rattle.gf128.specs.Running.{State, finishRefusal, afterFinish}
 use Rattle.octets.proofs.BigEndian.{length-beBytes}
 use Rattle.ghash_state.specs.State.{view}
-use Rattle.ghash_running.specs.Answers.{Feeds, Finishes}
+use Rattle.ghash_running.specs.Answers.{Updates, Finishes}
 use Rattle.ghash_state.specs.declared.Running.{Running}
 use Rattle.ghash_running.specs.declared.Finished.{Finished}
-use Rattle.rvghash.specs.Lent.{stateFor}
+use Rattle.rvghash.specs.Lent.{FinishesInto, stateFor}
 use Rattle.ghash_inverse.specs.StepBack.{StepsBackBytes}
 use Rattle.rvghash.specs.StepBack.{StepsBackInto}
-use Rattle.rvghash.specs.Out.{finishNumber, finishState, finishOut}
 
 -- an `out` of another length: 9, and nothing is written
 pub out-other : (out : List ℕ) (n v : ℕ) → (length out ≡ 16 → ⊥) → (9 ≡ outNumber out n) × (out ≡ outBytes out v)
@@ -47,19 +46,19 @@ pub answered : (out out′ : List ℕ) (n : ℕ) (a : Answer) (number block : �
 answered out out′ n a number block p q = (q .0 ∙ ap (outNumber out) (p .0), q .1 ∙ ap (outBytes out) (p .1))
 
 -- a finishing call whose block is put to `out`, where b says that `out` is 16 bytes long
-into : (b : Bool) (number : ℕ) (after : State) (block : ℕ) (s : Running) (f : Finished) (n : ℕ) (t : Running)
-    → Finishes number after block s f → n ≡ cond b (f .number) 9 → t ≡ cond b (f .state) s
-    → Feeds (cond b number 9) (cond b after (view s)) s n t
-into true number after block s f n t h p q =
-    record { answer = p ∙ h .answer; state = ap view q ∙ h .state; kept = λ e. q ∙ h .kept e }
-into false number after block s f n t h p q = record { answer = p; state = ap view q; kept = λ e. q }
+into : (b : Bool) (number : ℕ) (after : State) (s : Running) (f : Finished) (n : ℕ) (t : Running)
+    → Updates number after s (f .number) (f .state) → n ≡ cond b (f .number) 9 → t ≡ cond b (f .state) s
+    → Updates (cond b number 9) (cond b after (view s)) s n t
+into true number after s f n t h p q =
+    record { answer = p ∙ h .answer; state = ap view q ∙ h .state; kept = λ e. q ∙ h .kept e; spare = λ e. ap (λ (r : Running). r .spare) q ∙ h .spare e }
+into false number after s f n t h p q = record { answer = p; state = ap view q; kept = λ e. q; spare = λ e. absurd (omega (arith, e)) }
 
 pub finish-into : (key : List ℕ) (s : Running) (out : List ℕ) (f : Finished) (n : ℕ) (t : Running) (out′ : List ℕ)
-    → Finishes (finishRefusal key (view s)) (afterFinish key (view s)) (finishBlock key (view s)) s f
+    → Finishes key s (f .number) (f .state) (f .block)
     → (n ≡ outNumber out (f .number)) × (t ≡ stateFor out (f .state) s) × (out′ ≡ outBytes out (valueOf (f .block)))
-    → Feeds (finishNumber key (view s) out) (finishState key (view s) out) s n t × (out′ ≡ finishOut key (view s) out)
+    → FinishesInto key s out n t out′
 finish-into key s out f n t out′ h p =
-    (into (eqb (length out) 16) (finishRefusal key (view s)) (afterFinish key (view s)) (finishBlock key (view s)) s f n t h (p .0) (p .1), p .2 ∙ ap (outBytes out) (h .hash))
+    (into (eqb (length out) 16) (finishRefusal key (view s)) (afterFinish key (view s)) s f n t (h .0) (p .0) (p .1), p .2 ∙ ap (outBytes out) (h .1))
 
 -- a step back's answer, once its block is put to `out`
 pub stepped : (key block later out out′ : List ℕ) (n : ℕ) (a : Answer)

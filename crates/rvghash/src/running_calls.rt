@@ -1,10 +1,10 @@
 // The running hash that the caller lends, updated where it lies. Each function hands it by value to one that does the work.
 ghost use mathlib.Core.Path.{_≡_};
-ghost use Rattle.gf128.specs.Running.{fresh};
-ghost use Rattle.ghash_state.specs.State.{view};
+ghost use Rattle.ghash_state.specs.State.{Fresh};
+ghost use Rattle.ghash_running.specs.Answers.{FeedsA, FeedsC};
 ghost use Rattle.ghash_block.specs.Block.{valueOf};
 ghost use Rattle.gf128.specs.Entries.{outNumber, outBytes};
-ghost use Rattle.rvghash.specs.Lent.{FeedsA, FeedsC, FinishesInto, stateFor};
+ghost use Rattle.rvghash.specs.Lent.{FinishesInto, stateFor};
 use crate::out::put_answer;
 use ghash_block::answer::Answer;
 use ghash_running::Fed;
@@ -20,7 +20,7 @@ use ghash_state::Running;
 // Makes the lent running hash a fresh one.
 #[no_mangle]
 pub extern "C" fn rvghash_running_new(state: &mut Running)
-    ensures { λ _. ⌜ view (now (state .exit)) ≡ fresh ⌝ }
+    ensures { λ _. ⌜ Fresh (now (state .exit)) ⌝ }
 {
     *state = Running::new();
 }

@@ -6,10 +6,11 @@ use lib.ListN.{length}
 use Rattle.gf128.specs.Bytes.{blockAt}
 use Rattle.gf128.specs.Hash.{limit}
 use Rattle.gf128.specs.Running.{Part, feedARefusal, finishRefusal, pushed, fedA}
-use Rattle.gf128.proofs.Running.{state, well-formed, first-a, open-call, takes-a}
+use Rattle.gf128.proofs.Running.{well-formed, first-a, open-call, takes-a}
 use Rattle.ghash_block.specs.Block.{keyOf}
-use Rattle.ghash_state.specs.State.{view, held}
-use Rattle.ghash_running.proofs.Answers.{feed-refused, feed-refused-with, feed-taken}
+use Rattle.ghash_state.specs.State.{view, stateOf, held}
+use Rattle.ghash_whole.proofs.Tables.{serves}
+use Rattle.ghash_running.proofs.Answers.{refused, refused-with, taken}
 use borrow.Author.Needs.{needs}
 use Rattle.ghash_running.proofs.fed_a_on.Statement.{statement}
 use Rattle.ghash_running.proofs.fed_a_on.Tie as tie
@@ -29,7 +30,7 @@ returns c =
     let e = c .before .before .call-refusal .ensures in
     let f : finishRefusal key s ≡ 0 → ⊥ = λ z. c .before .if1 .taken (e ∙ z) in
     let n = first-a key s piece f in
-    feed-refused (feedARefusal key s piece) (fedA (blockAt key 0) s piece) (a .state) (c .feed-refused .result) (λ z. f (sym n ∙ z))
+    refused (feedARefusal key s piece) (fedA (blockAt key 0) s piece) (a .state) _ _ (λ z. f (sym n ∙ z))
     (c .feed-refused .ensures .0 ∙ e ∙ sym n) (c .feed-refused .ensures .1)
 
 feed-refused-requires-2 : tie.Need-feed-refused-requires-2
@@ -43,7 +44,7 @@ returns-2 c =
     let s = view (a .state) in
     let o = open-call key s (sym (c .before .before .before .before .call-refusal .ensures) ∙ c .before .before .before .if1 .left) in
     let n : feedARefusal key s piece ≡ 10 = rw (eq-eqb (length key) 16 (o .key-fits), well-formed s (o .well), ne-eqb (s .phase) 0 (c .before .if2 .taken)) in
-    feed-refused-with (feedARefusal key s piece) (fedA (blockAt key 0) s piece) (a .state) 9 (c .feed-refused2 .result) n (c .feed-refused2 .ensures)
+    refused-with (feedARefusal key s piece) (fedA (blockAt key 0) s piece) (a .state) 9 _ _ n (c .feed-refused2 .ensures)
 
 cast-n : tie.Need-cast-n
 cast-n c = search needs
@@ -68,7 +69,7 @@ returns-3 c =
       eq-eqb (s .phase) 0 (c .before .before .before .if2 .left),
       lt-ltb limit (s .countA + length piece) (c .before .if3 .taken),
     ) in
-    feed-refused-with (feedARefusal key s piece) (fedA (blockAt key 0) s piece) (a .state) 10 (c .feed-refused3 .result) n (c .feed-refused3 .ensures)
+    refused-with (feedARefusal key s piece) (fedA (blockAt key 0) s piece) (a .state) 10 _ _ n (c .feed-refused3 .ensures)
 
 key-at-start-requires : tie.Need-key-at-start-requires
 key-at-start-requires c κs = search needs
@@ -90,21 +91,26 @@ absorb-requires c κs =
 cast-a-count : tie.Need-cast-a-count
 cast-a-count c = search needs
 
+of-requires : tie.Need-of-requires
+of-requires c κs = search needs
+
 returns-4 : tie.Need-returns-4
 unfolding fedA
 returns-4 c =
-    let a = c .before .before .before .before .before .before .before .before .before .before .before .before .before .before .before .before .args in
+    let a = c .before .before .before .before .before .before .before .before .before .before .before .before .before .before .before .args in
     let key = a .key .now in
     let piece = a .piece .now in
     let s = view (a .state) in
-    let o = open-call key s (sym (c .before .before .before .before .before .before .before .before .before .before .before .before .before .call-refusal .ensures) ∙ c .before .before .before .before .before .before .before .before .before .before .before .before .if1 .left) in
-    let n = takes-a key (o .key-fits) s (o .well) piece (c .before .before .before .before .before .before .before .before .before .before .if2 .left) (c .before .before .before .before .before .before .before .before .if3 .left) in
-    let h : ℕ = keyOf (c .before .before .before .before .before .before .before .key-at-start .result) in
-    feed-taken (feedARefusal key s piece) (fedA (blockAt key 0) s piece) (a .state) _ n
-    (ap (λ (p : Part). state p (s .countA + length piece) (s .countC) 0)
-    (c .before .before .absorb .ensures (c .before .before .before .before .before .put-tables .ensures)
-    ∙ ap (λ (p : Part). pushed h (s .countA) p piece) (c .before .before .before .part-of .ensures)
-    ∙ ap (λ (x : ℕ). pushed x (s .countA) (held s) piece) (c .before .before .before .before .before .before .before .key-at-start .ensures)))
+    let o = open-call key s (sym (c .before .before .before .before .before .before .before .before .before .before .before .before .call-refusal .ensures) ∙ c .before .before .before .before .before .before .before .before .before .before .before .if1 .left) in
+    let n = takes-a key (o .key-fits) s (o .well) piece (c .before .before .before .before .before .before .before .before .before .if2 .left) (c .before .before .before .before .before .before .before .if3 .left) in
+    let h : ℕ = keyOf (c .before .before .before .before .before .before .key-at-start .result) in
+    taken (feedARefusal key s piece) (fedA (blockAt key 0) s piece) (a .state) _ n
+    (c .of .ensures .0
+    ∙ ap (λ (p : Part). stateOf p (s .countA + length piece) (s .countC) 0)
+    (c .before .absorb .ensures (serves (a .path) (c .before .before .before .before .put-tables .ensures))
+    ∙ ap (λ (p : Part). pushed h (s .countA) p piece) (c .before .before .part-of .ensures)
+    ∙ ap (λ (x : ℕ). pushed x (s .countA) (held s) piece) (c .before .before .before .before .before .before .key-at-start .ensures)))
+    (c .of .ensures .1)
 
 pub fed-a-on-spec : {M : Type 1} → statement M
 fed-a-on-spec =
@@ -124,4 +130,5 @@ fed-a-on-spec =
     part-of-requires
     absorb-requires
     cast-a-count
+    of-requires
     returns-4)

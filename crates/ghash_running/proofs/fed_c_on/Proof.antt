@@ -6,10 +6,11 @@ use lib.ListN.{length}
 use Rattle.gf128.specs.Bytes.{blockAt}
 use Rattle.gf128.specs.Hash.{limit}
 use Rattle.gf128.specs.Running.{Part, feedCRefusal, finishRefusal, pushed, startedC, fedC}
-use Rattle.gf128.proofs.Running.{state, well-formed, started-zeros, first-c, open-call, takes-c}
+use Rattle.gf128.proofs.Running.{well-formed, started-zeros, first-c, open-call, takes-c}
 use Rattle.ghash_block.specs.Block.{keyOf}
-use Rattle.ghash_state.specs.State.{view}
-use Rattle.ghash_running.proofs.Answers.{feed-refused, feed-refused-with, feed-taken}
+use Rattle.ghash_state.specs.State.{view, stateOf}
+use Rattle.ghash_whole.proofs.Tables.{serves}
+use Rattle.ghash_running.proofs.Answers.{refused, refused-with, taken}
 use borrow.Author.Needs.{needs}
 use Rattle.ghash_running.proofs.fed_c_on.Statement.{statement}
 use Rattle.ghash_running.proofs.fed_c_on.Tie as tie
@@ -29,7 +30,7 @@ returns c =
     let e = c .before .before .call-refusal .ensures in
     let f : finishRefusal key s ≡ 0 → ⊥ = λ z. c .before .if1 .taken (e ∙ z) in
     let n = first-c key s piece f in
-    feed-refused (feedCRefusal key s piece) (fedC (blockAt key 0) s piece) (a .state) (c .feed-refused .result) (λ z. f (sym n ∙ z))
+    refused (feedCRefusal key s piece) (fedC (blockAt key 0) s piece) (a .state) _ _ (λ z. f (sym n ∙ z))
     (c .feed-refused .ensures .0 ∙ e ∙ sym n) (c .feed-refused .ensures .1)
 
 cast-n : tie.Need-cast-n
@@ -55,7 +56,7 @@ returns-2 c =
       ne-eqb (s .phase) 2 (o .unfinished),
       lt-ltb limit (s .countC + length piece) (c .before .if2 .taken),
     ) in
-    feed-refused-with (feedCRefusal key s piece) (fedC (blockAt key 0) s piece) (a .state) 10 (c .feed-refused2 .result) n (c .feed-refused2 .ensures)
+    refused-with (feedCRefusal key s piece) (fedC (blockAt key 0) s piece) (a .state) 10 _ _ n (c .feed-refused2 .ensures)
 
 key-at-start-requires : tie.Need-key-at-start-requires
 key-at-start-requires c κs = search needs
@@ -72,28 +73,33 @@ absorb-requires c κs =
     let key = a .key .now in
     let s = view (a .state) in
     let o = open-call key s (sym (c .before .before .before .before .before .before .before .before .before .call-refusal .ensures) ∙ c .before .before .before .before .before .before .before .before .if1 .left) in
-    let p = c .started-c .ensures (c .before .before .before .put-tables .ensures) in
+    let p = c .started-c .ensures (serves (a .path) (c .before .before .before .put-tables .ensures)) in
     rw (ap (λ (x : Part). x .block) p) (started-zeros (keyOf (c .before .before .before .before .before .key-at-start .result)) s (o .well) (o .unfinished))
 
 cast-c-count : tie.Need-cast-c-count
 cast-c-count c = search needs
 
+of-requires : tie.Need-of-requires
+of-requires c κs = search needs
+
 returns-3 : tie.Need-returns-3
 unfolding fedC
 returns-3 c =
-    let a = c .before .before .before .before .before .before .before .before .before .before .before .before .before .before .before .args in
+    let a = c .before .before .before .before .before .before .before .before .before .before .before .before .before .before .args in
     let key = a .key .now in
     let piece = a .piece .now in
     let s = view (a .state) in
-    let o = open-call key s (sym (c .before .before .before .before .before .before .before .before .before .before .before .before .call-refusal .ensures) ∙ c .before .before .before .before .before .before .before .before .before .before .before .if1 .left) in
-    let n = takes-c key (o .key-fits) s (o .well) piece (o .unfinished) (c .before .before .before .before .before .before .before .before .before .if2 .left) in
-    let w = c .before .before .before .before .before .before .put-tables .ensures in
-    let h : ℕ = keyOf (c .before .before .before .before .before .before .before .before .key-at-start .result) in
-    feed-taken (feedCRefusal key s piece) (fedC (blockAt key 0) s piece) (a .state) _ n
-    (ap (λ (p : Part). state p (s .countA) (s .countC + length piece) 1)
-    (c .before .before .absorb .ensures w
-    ∙ ap (λ (p : Part). pushed h (s .countC) p piece) (c .before .before .before .started-c .ensures w)
-    ∙ ap (λ (x : ℕ). pushed x (s .countC) (startedC x s) piece) (c .before .before .before .before .before .before .before .before .key-at-start .ensures)))
+    let o = open-call key s (sym (c .before .before .before .before .before .before .before .before .before .before .before .call-refusal .ensures) ∙ c .before .before .before .before .before .before .before .before .before .before .if1 .left) in
+    let n = takes-c key (o .key-fits) s (o .well) piece (o .unfinished) (c .before .before .before .before .before .before .before .before .if2 .left) in
+    let w = serves (a .path) (c .before .before .before .before .before .put-tables .ensures) in
+    let h : ℕ = keyOf (c .before .before .before .before .before .before .before .key-at-start .result) in
+    taken (feedCRefusal key s piece) (fedC (blockAt key 0) s piece) (a .state) _ n
+    (c .of .ensures .0
+    ∙ ap (λ (p : Part). stateOf p (s .countA) (s .countC + length piece) 1)
+    (c .before .absorb .ensures w
+    ∙ ap (λ (p : Part). pushed h (s .countC) p piece) (c .before .before .started-c .ensures w)
+    ∙ ap (λ (x : ℕ). pushed x (s .countC) (startedC x s) piece) (c .before .before .before .before .before .before .before .key-at-start .ensures)))
+    (c .of .ensures .1)
 
 pub fed-c-on-spec : {M : Type 1} → statement M
 fed-c-on-spec =
@@ -111,4 +117,5 @@ fed-c-on-spec =
     started-c-requires
     absorb-requires
     cast-c-count
+    of-requires
     returns-3)

@@ -7,7 +7,7 @@ use lib.Seq.{length-take-le, take-all}
 use Rattle.gf128.specs.Running.{pushed}
 use Rattle.gf128.proofs.Parts.{pushed-mod, pushed-gap}
 use Rattle.ghash_block.specs.Block.{valueOf, keyOf}
-use Rattle.ghash_state.specs.State.{partOf, opened}
+use Rattle.ghash_state.specs.State.{partOf, noneOpen}
 use borrow.Author.Needs.{needs}
 use Rattle.ghash_state.proofs.absorb.Statement.{statement}
 use Rattle.ghash_state.proofs.absorb.Tie as tie
@@ -52,7 +52,7 @@ returns-2 c = λ w.
     let q = c .before .before .before .push-run2 .result in
     let n : length (q .bytes) ≡ 16 = search needs in
     c .push-from-start .ensures w
-    ∙ ap (pushed (keyOf (a .key)) 0 (opened (valueOf (q .y)))) rest
+    ∙ ap (pushed (keyOf (a .key)) 0 (noneOpen (valueOf (q .y)))) rest
     ∙ sym (pushed-gap (keyOf (a .key)) (a .n) (partOf (a .p)) (partOf q) s g (c .before .before .before .before .before .before .before .pre) (omega arith) (omega arith) n (c .before .before .before .push-run2 .ensures w))
 
 pub absorb-spec : {M : Type 1} → statement M

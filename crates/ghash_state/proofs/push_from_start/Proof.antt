@@ -8,7 +8,7 @@ use lib.Seq.{length-take-le, take-all}
 use Rattle.gf128.specs.Running.{pushed}
 use Rattle.gf128.proofs.Parts.{pushed-cut}
 use Rattle.ghash_block.specs.Block.{valueOf, keyOf}
-use Rattle.ghash_state.specs.State.{opened}
+use Rattle.ghash_state.specs.State.{noneOpen}
 use borrow.Author.Needs.{needs}
 use Rattle.ghash_state.proofs.push_from_start.Statement.{statement}
 use Rattle.ghash_state.proofs.push_from_start.Tie as tie
@@ -43,7 +43,7 @@ returns c = λ w.
     let n : ℕ = length s / 16 * 16 in
     let rest : take (length s - n) (drop n s) ≡ drop n s = take-all (length s - n) (drop n s) (omega (arith, length-drop n s)) in
     c .push-run .ensures w
-    ∙ ap₂ (λ (y : ℕ) (l : List ℕ). pushed (keyOf (a .key)) 0 (opened y) l) (c .before .before .over-blocks .ensures w) rest
+    ∙ ap₂ (λ (y : ℕ) (l : List ℕ). pushed (keyOf (a .key)) 0 (noneOpen y) l) (c .before .before .over-blocks .ensures w) rest
     ∙ sym (pushed-cut (keyOf (a .key)) (valueOf (a .y)) s n (omega arith) (omega arith))
 
 pub push-from-start-spec : {M : Type 1} → statement M

@@ -4,6 +4,7 @@ use Prim.Native.Nat.{ℕ}
 use Rattle.gf128.specs.Hash.{next, over, blocksOf}
 use Rattle.gf128.proofs.Hash.{ghash-parts}
 use Rattle.ghash_block.specs.Block.{keyOf}
+use Rattle.ghash_whole.proofs.Tables.{serves}
 use borrow.Author.Needs.{needs}
 use Rattle.ghash_whole.proofs.hash_of.Statement.{statement}
 use Rattle.ghash_whole.proofs.hash_of.Tie as tie
@@ -28,11 +29,11 @@ returns c =
     let started = c .before .before .before .before .before .before .before in
     let a = started .before .before .before .before .args in
     let h : ℕ = keyOf (a .key) in
-    let serves = started .put-tables .ensures in
-    c .next .ensures serves
+    let w = serves (a .path) (started .put-tables .ensures) in
+    c .next .ensures w
     ∙ ap₂ (next h)
-    (c .before .before .before .over-blocks2 .ensures serves
-    ∙ ap (λ (y : ℕ). over h y (blocksOf (a .c .now))) (c .before .before .before .before .before .over-blocks .ensures serves))
+    (c .before .before .before .over-blocks2 .ensures w
+    ∙ ap (λ (y : ℕ). over h y (blocksOf (a .c .now))) (c .before .before .before .before .before .over-blocks .ensures w))
     (c .before .length-block .ensures)
     ∙ sym (ghash-parts h (a .a .now) (a .c .now))
 

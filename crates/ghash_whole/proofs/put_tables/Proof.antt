@@ -1,7 +1,6 @@
--- `put_tables`: the plain path needs no tables, and `fill_tables` makes the fast path's. Assumes nothing.
-use mathlib.Core.Path.{subst, sym}
-use Rattle.ghash_whole.specs.Path.{Serves}
-use Rattle.ghash_whole.specs.declared.Path.{Path}
+-- `put_tables`: the plain path's tables stay, and `fill_tables` makes the fast path's. Assumes nothing.
+use mathlib.Core.Path.{refl}
+use Rattle.ghash_whole.proofs.Tables.{plain-put, fast-put}
 use borrow.Author.Needs.{needs}
 use Rattle.ghash_whole.proofs.put_tables.Statement.{statement}
 use Rattle.ghash_whole.proofs.put_tables.Tie as tie
@@ -16,10 +15,10 @@ fill-tables-requires : tie.Need-fill-tables-requires
 fill-tables-requires c κs = search needs
 
 returns : tie.Need-returns
-returns c = subst (λ (p : Path). Serves p (c .before .before .args .key) (c .before .before .args .t .now)) (sym (c .enum-told .given .1)) (record { tables = tt })
+returns c = plain-put (c .enum-told .given .1) refl
 
 returns-2 : tie.Need-returns-2
-returns-2 c = subst (λ (p : Path). Serves p (c .before .before .before .before .args .key) (c .fill-tables .last .0)) (sym (c .before .before .enum-told2 .given .1)) (record { tables = c .fill-tables .ensures })
+returns-2 c = fast-put (c .before .before .enum-told2 .given .1) (c .fill-tables .ensures)
 
 pub put-tables-spec : {M : Type 1} → statement M
 put-tables-spec = tie.close (tie.spec enum-told enum-told-2 fill-tables-requires returns returns-2)

@@ -1,7 +1,7 @@
 -- `rvghash_feed_c` meets its contract, by the walk of `Lent.antt`: it hands the lent running hash to `fed_c_fast`.
 -- Assumes nothing.
 use mir.Syntax.{imm}
-use Rattle.rvghash.specs.Lent.{FeedsC}
+use Rattle.ghash_running.specs.Answers.{FeedsC}
 use Rattle.ghash_running.proofs.fed_c_fast.Symbol.{name as #g, routine}
 use Rattle.ghash_running.proofs.fed_c_fast.Met.{met}
 use Rattle.rvghash.proofs.Lent.{Says, lent-meets}
