@@ -135,14 +135,15 @@ uint32_t rvghash_degree(const uint8_t *block, size_t block_len, uint32_t *degree
 /*
  * A running hash: a message taken in pieces. Its fields are the caller's to keep and copy; no key is in it.
  * phase 0 takes A, 1 takes C, 2 is finished. open holds the bytes since the last whole block, then zeros.
- * The struct's padding, seven bytes after phase, is never read, and any call may leave old bytes of the stack there, a
- * refused one too: compare the fields, and clear the padding before the struct's bytes leave the process.
+ * spare fills the struct up, so that it has no padding: a call that is done writes zeros there, a refused one leaves it
+ * as it is, and no call reads it.
  */
 struct rvghash_running {
     uint64_t y_high, y_low; /* the partial hash Y, as a big-endian number's halves */
     uint8_t open[16];
     uint32_t a_count, c_count; /* the bytes of A and of C so far */
     uint8_t phase;
+    uint8_t spare[7];
 };
 
 /* Makes a fresh running hash. Lent: state, written whole. */

@@ -38,6 +38,7 @@ static void layout(void)
     expect(offsetof(struct rvghash_running, a_count) == 32, "a_count is at 32");
     expect(offsetof(struct rvghash_running, c_count) == 36, "c_count is at 36");
     expect(offsetof(struct rvghash_running, phase) == 40, "phase is at 40");
+    expect(offsetof(struct rvghash_running, spare) == 41, "spare is at 41");
 }
 
 /* Document 01's marked cases K6, K9, K10 and K14, each through the functions that it concerns. */
@@ -63,18 +64,22 @@ static void fields(void)
 static void running(void)
 {
     uint8_t one[16] = {0x80}, c[1] = {1}, out[16];
-    struct rvghash_running r, before;
+    struct rvghash_running r, before, zeros;
     memset(&r, 0xFF, sizeof r);
+    memset(&zeros, 0, sizeof zeros);
     rvghash_running_new(&r);
-    expect(r.y_high == 0 && r.y_low == 0 && r.a_count == 0 && r.c_count == 0 && r.phase == 0, "a fresh running hash");
+    expect(memcmp(&r, &zeros, sizeof r) == 0, "a fresh running hash is all zeros");
+    memset(r.spare, 0xFF, sizeof r.spare);
     expect(rvghash_feed_a(&r, one, 16, c, 0) == RVGHASH_DONE, "an empty piece of A");
     expect(rvghash_feed_a_fast(&r, one, 16, c, 0) == RVGHASH_DONE, "an empty piece of A, fast");
     expect(rvghash_feed_a_plain(&r, one, 16, c, 0) == RVGHASH_DONE, "an empty piece of A, plain");
     expect(rvghash_feed_c(&r, one, 16, c, 1) == RVGHASH_DONE && r.phase == 1 && r.c_count == 1, "a piece of C");
     expect(rvghash_feed_c_fast(&r, one, 16, c, 0) == RVGHASH_DONE, "an empty piece of C, fast");
     expect(rvghash_feed_c_plain(&r, one, 16, c, 0) == RVGHASH_DONE, "an empty piece of C, plain");
+    expect(memcmp(r.spare, zeros.spare, sizeof r.spare) == 0, "a call that is done writes zeros to the spare bytes");
+    memset(r.spare, 0xFF, sizeof r.spare);
     before = r;
-    expect(rvghash_feed_a(&r, one, 16, c, 1) == RVGHASH_BAD_RUNNING && memcmp(&r, &before, 41) == 0, "A after C");
+    expect(rvghash_feed_a(&r, one, 16, c, 1) == RVGHASH_BAD_RUNNING && memcmp(&r, &before, sizeof r) == 0, "A after C");
     expect(rvghash_finish(&r, one, 16, out, 16) == RVGHASH_DONE && is_block(out, 1, 8), "finishing K14");
     expect(r.phase == 2 && r.y_high == 0x0100000000000000u && r.y_low == 8, "the hash is also Y");
     expect(rvghash_finish_fast(&r, one, 16, out, 16) == RVGHASH_BAD_RUNNING && is_block(out, 0, 0), "finishing again, fast");

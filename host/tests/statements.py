@@ -129,8 +129,8 @@ NOWHERE = [
     ("vector_word::decoder", "The words are decoded by `vector_word::decoder`."),
     ("gf128/specs/Field: produkt", "| a promise | `gf128/specs/Field: product, produkt` | the check itself |"),
     ("the edit no_such_edit of rvghash", "| a promise | `rvghash_execute` | rvghash: `no_such_edit` |"),
-    ("the edit new_is_in_phase_1 of rvgash", "| a promise | `rvghash_execute` | rvgash: `new_is_in_phase_1` |"),
-    ("new_is_in_phase_1", "| a promise | `rvghash_execute` | `new_is_in_phase_1` |"),
+    ("the edit new_was_fresh_before of rvgash", "| a promise | `rvghash_execute` | rvgash: `new_was_fresh_before` |"),
+    ("new_was_fresh_before", "| a promise | `rvghash_execute` | `new_was_fresh_before` |"),
     ("rvghash_no_such_function", "The file is what `rvghash_no_such_function` leaves."),
     ("host/no_such_file", "It is tried by `host/no_such_file`."),
 ]

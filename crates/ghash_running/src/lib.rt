@@ -57,10 +57,11 @@ fn started_c(path: Path, key: Key, t: &[u64; TABLES], state: Running) -> Part
 fn call_refusal(state: Running, key: &[u8]) -> u32
     ensures { λ r. ⌜ r ≡ finishRefusal (now (key .entry)) (view state) ⌝ }
 {
+    let bad = malformed(state);
     if key.len() != 16 {
         return 9;
     }
-    if malformed(state) {
+    if bad {
         return 10;
     }
     if state.phase == 2 { 10 } else { 0 }

@@ -10,6 +10,7 @@ pub struct Running {
     pub a_count: u32,
     pub c_count: u32,
     pub phase: u8,
+    pub spare: [u8; 7],
 }
 
 pub const RUNNING_SIZE: usize = size_of::<Running>();

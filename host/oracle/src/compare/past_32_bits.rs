@@ -91,12 +91,13 @@ fn parts(group: &mut Group, rng: &mut Rng, zeros: &[u8]) {
 fn pieces(group: &mut Group, rng: &mut Rng, zeros: &[u8]) {
     let mut memory = Lent::write("running", RUNNING_SIZE);
     let key: Block = ZERO;
-    let used = State { y: rng.block(), a_count: 32, c_count: 48, phase: 1, ..FRESH };
+    let spare = rng.bytes(7).try_into().expect("7 bytes");
+    let used = State { y: rng.block(), a_count: 32, c_count: 48, phase: 1, spare, ..FRESH };
     for path in PATHS {
         for (state, feed) in [(FRESH, path.feed_a()), (FRESH, path.feed_c()), (used, path.feed_c())] {
             for long in [PAST - 48, PAST - 1, PAST, PAST + 3, PAST + LIMIT] {
                 group.compare(&("feed", path, Shown(state), long), Seen::expected(11, Shown(state)), || {
-                    let bytes = to_memory(rng, &state);
+                    let bytes = to_memory(&state);
                     let running = memory.lend_aligned(rng, &bytes, 8).cast();
                     // SAFETY: all told bytes can be read, and the running hash stands alone.
                     let answer = unsafe { feed(running, key.as_ptr(), 16, zeros.as_ptr(), long) };

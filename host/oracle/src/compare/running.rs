@@ -69,6 +69,7 @@ impl Debug for Shown {
             .field("a_count", &self.0.a_count)
             .field("c_count", &self.0.c_count)
             .field("phase", &self.0.phase)
+            .field("spare", &Bytes(self.0.spare.to_vec()))
             .finish()
     }
 }
@@ -79,15 +80,16 @@ pub struct Left {
     pub out: Bytes,
 }
 
-/// The struct's bytes. The seven after the phase are padding: random before a call, and free after it.
-pub fn to_memory(rng: &mut Rng, state: &State) -> Vec<u8> {
+/// The struct's bytes.
+pub fn to_memory(state: &State) -> Vec<u8> {
     let half = |range: std::ops::Range<usize>| u64::from_be_bytes(state.y[range].try_into().expect("8 bytes"));
     let mut bytes = [half(0..8).to_ne_bytes(), half(8..16).to_ne_bytes()].concat();
     bytes.extend(state.open);
     bytes.extend(state.a_count.to_ne_bytes());
     bytes.extend(state.c_count.to_ne_bytes());
     bytes.push(state.phase);
-    bytes.extend(rng.bytes(RUNNING_SIZE - bytes.len()));
+    bytes.extend(state.spare);
+    assert_eq!(bytes.len(), RUNNING_SIZE);
     bytes
 }
 
@@ -100,6 +102,7 @@ pub fn from_memory(bytes: &[u8]) -> State {
         a_count: count(32),
         c_count: count(36),
         phase: bytes[40],
+        spare: bytes[41..48].try_into().expect("7 bytes"),
     }
 }
 
@@ -122,7 +125,7 @@ impl Memory {
     }
 
     fn call(&mut self, rng: &mut Rng, state: &State, s: &Step) -> Seen<Left> {
-        let memory = to_memory(rng, state);
+        let memory = to_memory(state);
         let running = self.running.lend_aligned(rng, &memory, 8).cast();
         let key = self.key.lend(rng, &s.key.0);
         let piece = self.piece.lend(rng, &s.piece.0);
@@ -175,7 +178,7 @@ fn fresh(run: &Run, memory: &mut Memory) {
         let mut rng = group.rng(index);
         let before = any_state(&mut rng);
         group.compare(&Shown(before), Seen::expected(0, Shown(FRESH)), || {
-            let bytes = to_memory(&mut rng, &before);
+            let bytes = to_memory(&before);
             let running = memory.running.lend_aligned(&mut rng, &bytes, 8);
             // SAFETY: the pointer goes with memory for one running hash.
             unsafe { rvghash_running_new(running.cast()) };
@@ -191,7 +194,8 @@ pub fn any_state(rng: &mut Rng) -> State {
     let phase = rng.pick(&[0, 0, 0, 1, 1, 1, 1, 2]);
     let a_count = count(rng);
     let c_count = if phase == 0 { 0 } else { count(rng) };
-    let mut state = State { y: block(rng), open: ZERO, a_count, c_count, phase };
+    let spare = rng.bytes(7).try_into().expect("7 bytes");
+    let mut state = State { y: block(rng), open: ZERO, a_count, c_count, phase, spare };
     let used = open_bytes(&state);
     state.open[..used].copy_from_slice(&block(rng)[..used]);
     for _ in 0..rng.pick(&[0, 0, 0, 1, 1, 2]) {

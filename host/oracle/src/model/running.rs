@@ -13,9 +13,10 @@ pub struct State {
     pub a_count: u32,
     pub c_count: u32,
     pub phase: u8,
+    pub spare: [u8; 7],
 }
 
-pub const FRESH: State = State { y: ZERO, open: ZERO, a_count: 0, c_count: 0, phase: 0 };
+pub const FRESH: State = State { y: ZERO, open: ZERO, a_count: 0, c_count: 0, phase: 0, spare: [0; 7] };
 
 /// One call on a running hash, the key aside.
 #[derive(Clone, Copy)]
@@ -83,7 +84,8 @@ impl Fed {
             1 => part_way(absorb(ZERO, &padded(&self.a), h), &self.c, h),
             _ => (ghash(h, &self.a, &self.c), ZERO),
         };
-        State { y, open, a_count: self.a.len() as u32, c_count: self.c.len() as u32, phase: self.phase }
+        let (a_count, c_count) = (self.a.len() as u32, self.c.len() as u32);
+        State { y, open, a_count, c_count, phase: self.phase, spare: [0; 7] }
     }
 }
 
@@ -137,6 +139,7 @@ pub fn transition(before: &State, key: &[u8], call: Call) -> (u32, State) {
     if answer != 0 {
         return (answer, state);
     }
+    state.spare = [0; 7];
     let h = sixteen(key);
     match call {
         Call::FeedA(piece) => state.take(piece, &h),
