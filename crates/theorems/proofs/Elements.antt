@@ -5,7 +5,7 @@ use mathlib.Core.Bool.{Bool, true, false, cond, _||_}
 use mathlib.Core.List.{List}
 use mathlib.Core.Path.{_≡_, refl, sym, ap, ap₂, subst, _∙_}
 use Prim.Native.Nat.{ℕ, zero, suc, _+_, _*_, _/_, _%_, _^_, _<_, _≤_}
-use native.Mathlib.Nat.{mod-lt, mod-eq-of-lt, mul-le-mul-right, one-mul, suc-mul, le-trans, le-of-eq, pow-suc, mul-suc}
+use native.Mathlib.Nat.{mod-lt, mod-eq-of-lt, mul-le-mul-right, one-mul, suc-mul, pow-suc, mul-suc}
 use native.Mathlib.Omega.{arith}
 use borrow.Author.Tests.{eqb-false}
 use lib.Dec.{eqb}
@@ -25,7 +25,7 @@ use Rattle.vector_clmul.specs.Carryless.{active, element, multiplierOf, carryle
 use Rattle.theorems.specs.Execution.{Done}
 use Rattle.octets.proofs.LittleEndian.{readLe-same, writeLe-length, writeLe-other, writeLe-read}
 use Rattle.theorems.proofs.Fold.{Except, Does, fold-done}
-use Rattle.theorems.proofs.Registers.{Aligned, Ready, unread}
+use Rattle.theorems.proofs.Registers.{Aligned, Ready, element-fits, unread}
 
 -- a multiplier that is a register group is aligned
 abbrev pub AlignedMultiplier : Multiplier → Fields → Settings → Type 0
@@ -66,10 +66,6 @@ module _
     abbrev place : ℕ → ℕ
     place i = elementAt (s .vlen) (s .sew) (f .vd) i
 
-    -- element i ends within its group
-    within : (i : ℕ) → i < s .vl → i * (s .sew / 8) + s .sew / 8 ≤ groupLength (s .vlen) (s .lmul)
-    within i h = le-trans (le-of-eq (sym (suc-mul i (s .sew / 8)))) (le-trans (mul-le-mul-right (s .sew / 8) h) (ready .elements-fit))
-
     apart : (i j : ℕ) → i < j → place i + s .sew / 8 ≤ place j
     apart i j h = omega (arith, suc-mul i (s .sew / 8), mul-le-mul-right (s .sew / 8) h)
 
@@ -77,7 +73,7 @@ module _
     source : (r i : ℕ) (g : List ℕ) → Aligned s r → i < s .vl → Except file g (place (s .vstart)) (place i) → element s g r i ≡ element s file r i
     source r i g al h x =
         readLe-same g file (elementAt (s .vlen) (s .sew) r i) (s .sew / 8)
-        (λ p w. x .same p (λ b. unread r (f .vd) (groupRegisters (s .lmul)) (registerBytes (s .vlen)) (i * (s .sew / 8)) (s .sew / 8) (s .vstart * (s .sew / 8)) p al vd-aligned (within i h) w b))
+        (λ p w. x .same p (λ b. unread r (f .vd) (groupRegisters (s .lmul)) (registerBytes (s .vlen)) (i * (s .sew / 8)) (s .sew / 8) (s .vstart * (s .sew / 8)) p al vd-aligned (element-fits s ready i h) w b))
 
     multiplier-same : (i : ℕ) (g : List ℕ) → i < s .vl → Except file g (place (s .vstart)) (place i) → multiplierOf m f s g i ≡ multiplierOf m f s file i
     multiplier-same i g h x = go m m-aligned
@@ -111,7 +107,7 @@ module _
         → Does g (carrylessStep which m f s i g) (place i) (s .sew / 8) (active f file i) (λ h. element s h (f .vd) i) (carrylessResult which m f s file i)
     unfolding carrylessStep
     step i g lo hi x =
-        let room : place i + s .sew / 8 ≤ length g = omega (arith, x .same-length, within i hi, ready .in-file (f .vd) vd-small vd-aligned) in
+        let room : place i + s .sew / 8 ≤ length g = omega (arith, x .same-length, element-fits s ready i hi, ready .in-file (f .vd) vd-small vd-aligned) in
         subst (λ (next : List ℕ). Does g next (place i) (s .sew / 8) (active f file i) (λ h. element s h (f .vd) i) (carrylessResult which m f s file i))
         (sym (ap₂ (λ (a : Bool) (v : ℕ). cond a (writeLe (s .sew / 8) g (place i) v) g) (active-same i g hi x) (result-same i g hi x)))
         (write-does g (place i) (s .sew / 8) (carrylessResult which m f s file i) (active f file i) room (result-lt i))

@@ -1,14 +1,15 @@
 -- A word that is not refused does what document 01 says, unit by unit (`every-unit`, `every-other-byte`): each active element or group
 -- in range holds the result computed from the file at entry, and every other byte is as at entry. Nothing is asked of vd, vs1 and vs2
--- beyond the refusals: vd equal to vs1 or vs2 is no exception. `nothing-done`: where vstart is at or past vl, the file stays.
+-- beyond the refusals: vd equal to vs1 or vs2 is no exception. Where vstart is at or past vl, the
+-- file stays (`file-stays`); if no refusal applies, the answer is 0 then, and vstart becomes 0 (`nothing-done`).
 -- Assumes nothing.
-use mathlib.Core.Bool.{Bool, true, false, cond, not, _&&_, _||_}
+use mathlib.Core.Bool.{Bool, true, false, cond, _&&_, _||_}
 use mathlib.Core.List.{List}
 use mathlib.Core.Path.{_≡_, refl, sym, ap, subst, _∙_}
-use Prim.Native.Nat.{ℕ, _-_, _/_, _%_, _<_, _≤_}
+use Prim.Native.Nat.{ℕ, _-_, _/_, _<_, _≤_}
 use native.Mathlib.Nat.{pos-of-ne-zero}
 use native.Mathlib.Omega.{arith}
-use borrow.Author.Tests.{eqb-true, eqb-false, eq-eqb, not-false}
+use borrow.Author.Tests.{eqb-false, eq-eqb}
 use lib.Dec.{eqb}
 use lib.ListN.{length, getD}
 use Rattle.octets.specs.Bytes.{AreBytes}
@@ -18,11 +19,11 @@ use Rattle.vector_word.specs.declared.Kind.{Kind}
 use Rattle.vector_word.specs.declared.Kind.the-variants.{VclmulVv, VclmulVx, VclmulhVv, VclmulhVx, VghshVv, VghshVs, VgmulVv, VgmulVs}
 use Rattle.vector_word.specs.declared.Word.{Word}
 use Rattle.vector_word.specs.declared.Word.the-variants.{Known, Unknown}
-use Rattle.vector_registers.specs.Settings.{misaligned}
+use Rattle.vector_registers.specs.Settings.{applies1, applies3}
 use Rattle.vector_word.specs.Kinds.{isVs, hasVs1Group}
-use Rattle.vector_refusal.specs.Refusal.{refusalOf}
+use Rattle.vector_refusal.specs.Refusal.{applies4, applies5, applies6, applies7, applies8, refusalOfKnown, refusalOfWord, refusalOf}
 use Rattle.vector_word.specs.Word.{decode}
-use Rattle.vector_word.proofs.Tests.{or-false}
+use Rattle.vector_word.proofs.Tests.{or-false, pick-next}
 use Rattle.vector_element.specs.declared.clmul.Half.{Half}
 use Rattle.vector_element.specs.declared.clmul.Half.the-variants.{Low, High}
 use Rattle.vector_clmul.specs.declared.Multiplier.{Multiplier}
@@ -32,13 +33,14 @@ use Rattle.vector_element.specs.Element.{elementAt}
 use Rattle.vector_element.specs.Steps.{steps}
 use Rattle.vector_clmul.specs.Carryless.{active, element, scalarOf, carrylessResult, carrylessStep, carryless}
 use Rattle.vector_ghash.specs.GhashWords.{group, vvStep, vsStep, ghashVv, ghashVs}
-use Rattle.vector_execute.specs.Execute.{doneKnown, done, executed}
+use Rattle.vector_execute.specs.Execute.{doneKnown, done, executed, vstartAfter}
 use Rattle.vector_execute.proofs.Admitted.{Admitted, admitted-as, performed}
 use Rattle.vector_element.proofs.Steps.{none-left}
 use Rattle.theorems.specs.Execution.{firstUnit, pastUnit, activeUnit, unitBytes, unitPlace, unitOf, resultOf, Within, Done, WordDone}
 use Rattle.theorems.proofs.Elements.{AlignedMultiplier, elements-done}
 use Rattle.theorems.proofs.Groups.{vv-done, vs-done}
-use Rattle.theorems.proofs.Registers.{Aligned, Ready, ready, Numbers, numbers, aligned}
+use Rattle.theorems.proofs.Places.{sew32, settings, vd-of, vs1-of, vs2-of}
+use Rattle.theorems.proofs.Registers.{Aligned, Numbers, numbers}
 
 -- refusal 8: with vm 0, vd is not the mask register
 unmasked : (vm vd : ℕ) (rest : Bool) → vm ≤ 1 → eqb vm 0 && (eqb vd 0 || rest) ≡ false → (vm ≡ 1 → ⊥) → 0 < vd
@@ -47,43 +49,27 @@ unmasked vm vd rest small h ne =
     pos-of-ne-zero (eqb-false vd 0 (or-false (eqb vd 0) rest (subst (λ (b : Bool). b && (eqb vd 0 || rest) ≡ false) (eq-eqb vm 0 z) h) .0))
 
 module _ (f : Fields) (s : Settings) (scalar : ℕ) (file : List ℕ) (bytes : AreBytes file) (n : Numbers f) where
-  -- refusal 6, by the groups that a kind has: vd; vd and vs2; all three
-  vd-of : (k : Kind) → Admitted (length file) k f s → Aligned s (f .vd)
-  vd-of k a = aligned (s .lmul) (f .vd) (or-false (misaligned (s .lmul) (f .vd)) _ (a .not6) .0)
-
-  rest-of : (k : Kind) → Admitted (length file) k f s
-      → (not (isVs k) && misaligned (s .lmul) (f .vs2) ≡ false) × (hasVs1Group k && misaligned (s .lmul) (f .vs1) ≡ false)
-  rest-of k a =
-      or-false (not (isVs k) && misaligned (s .lmul) (f .vs2)) (hasVs1Group k && misaligned (s .lmul) (f .vs1))
-      (or-false (misaligned (s .lmul) (f .vd)) _ (a .not6) .1)
-
-  settings : (k : Kind) → Admitted (length file) k f s → Ready (length file) s
-  settings k a = ready (length file) s (a .not1) (a .not3)
-
-  sew32 : not (eqb (s .sew) 32) ≡ false → s .sew ≡ 32
-  sew32 h = eqb-true (s .sew) 32 (not-false (eqb (s .sew) 32) h)
-
-  elements : (which : Half) (m : Multiplier) (k : Kind) → Admitted (length file) k f s → misaligned (s .lmul) (f .vs2) ≡ false → AlignedMultiplier m f s
+  elements : (which : Half) (m : Multiplier) (k : Kind) → Admitted (length file) k f s → Aligned s (f .vs2) → AlignedMultiplier m f s
       → Done file (carryless which m f s file) (s .vstart) (s .vl) (s .sew / 8) (elementAt (s .vlen) (s .sew) (f .vd)) (active f file)
       (λ i g. element s g (f .vd) i) (carrylessResult which m f s file)
   elements which m k a vs2 vs1 =
-      elements-done which m f s file (settings k a) (n .vd-small) (vd-of k a) (aligned (s .lmul) (f .vs2) vs2) vs1
+      elements-done which m f s file (settings a) (n .vd-small) (vd-of a) vs2 vs1
       (unmasked (f .vm) (f .vd) _ (n .vm-small) (a .not8))
 
   by-kind : (k : Kind) → Admitted (length file) k f s → WordDone k f s scalar file (doneKnown k f s scalar file)
   unfolding carrylessResult
-  by-kind VclmulVv a = elements Low Vs1 VclmulVv a (rest-of VclmulVv a .0) (aligned (s .lmul) (f .vs1) (rest-of VclmulVv a .1))
-  by-kind VclmulVx a = elements Low (Scalar (scalarOf f s scalar)) VclmulVx a (rest-of VclmulVx a .0) tt
-  by-kind VclmulhVv a = elements High Vs1 VclmulhVv a (rest-of VclmulhVv a .0) (aligned (s .lmul) (f .vs1) (rest-of VclmulhVv a .1))
-  by-kind VclmulhVx a = elements High (Scalar (scalarOf f s scalar)) VclmulhVx a (rest-of VclmulhVx a .0) tt
+  by-kind VclmulVv a = elements Low Vs1 VclmulVv a (vs2-of a refl) (vs1-of a refl)
+  by-kind VclmulVx a = elements Low (Scalar (scalarOf f s scalar)) VclmulVx a (vs2-of a refl) tt
+  by-kind VclmulhVv a = elements High Vs1 VclmulhVv a (vs2-of a refl) (vs1-of a refl)
+  by-kind VclmulhVx a = elements High (Scalar (scalarOf f s scalar)) VclmulhVx a (vs2-of a refl) tt
   by-kind VghshVv a =
-      vv-done YXorX f s file bytes (settings VghshVv a) (n .vd-small) (vd-of VghshVv a) (aligned (s .lmul) (f .vs1) (rest-of VghshVv a .1)) (sew32 (a .not4))
-      (aligned (s .lmul) (f .vs2) (rest-of VghshVv a .0))
+      vv-done YXorX f s file bytes (settings a) (n .vd-small) (vd-of a) (vs1-of a refl) (sew32 (s .sew) (a .not4))
+      (vs2-of a refl)
   by-kind VghshVs a =
-      vs-done YXorX f s file bytes (settings VghshVs a) (n .vd-small) (vd-of VghshVs a) (aligned (s .lmul) (f .vs1) (rest-of VghshVs a .1)) (sew32 (a .not4))
+      vs-done YXorX f s file bytes (settings a) (n .vd-small) (vd-of a) (vs1-of a refl) (sew32 (s .sew) (a .not4))
   by-kind VgmulVv a =
-      vv-done YAlone f s file bytes (settings VgmulVv a) (n .vd-small) (vd-of VgmulVv a) tt (sew32 (a .not4)) (aligned (s .lmul) (f .vs2) (rest-of VgmulVv a .0))
-  by-kind VgmulVs a = vs-done YAlone f s file bytes (settings VgmulVs a) (n .vd-small) (vd-of VgmulVs a) tt (sew32 (a .not4))
+      vv-done YAlone f s file bytes (settings a) (n .vd-small) (vd-of a) tt (sew32 (s .sew) (a .not4)) (vs2-of a refl)
+  by-kind VgmulVs a = vs-done YAlone f s file bytes (settings a) (n .vd-small) (vd-of a) tt (sew32 (s .sew) (a .not4))
 
 module _
     (word : ℕ) (s : Settings) (scalar : ℕ) (file : List ℕ) (bytes : AreBytes file) (number : refusalOf (length file) word s ≡ 0)
@@ -104,6 +90,20 @@ module _
         → ((i : ℕ) → firstUnit k s ≤ i → i < pastUnit k s → activeUnit k f file i ≡ true → Within (unitPlace k f s i) (unitBytes k s) p → ⊥)
         → getD (executed word s scalar file) p 0 ≡ getD file p 0
     every-other-byte = word-done .others
+
+-- a word of the eight to which no refusal applies is not refused
+none-applies : (fileLength word : ℕ) (s : Settings) {k : Kind} {f : Fields} → decode word ≡ Known k f → Admitted fileLength k f s
+    → refusalOf fileLength word s ≡ 0
+unfolding refusalOf refusalOfKnown
+none-applies fileLength word s {k} {f} known a =
+    sym (pick-next (applies1 fileLength (s .vlen)) 1 (refusalOfWord (decode word) s) (a .not1)
+    (pick-next (applies3 s) 3 _ (a .not3)
+    (pick-next (applies4 k s) 4 _ (a .not4)
+    (pick-next (applies5 k s) 5 _ (a .not5)
+    (pick-next (applies6 k f s) 6 _ (a .not6)
+    (pick-next (applies7 k f) 7 _ (a .not7)
+    (pick-next (applies8 k f) 8 0 (a .not8) refl)))))
+    ∙ ap (λ (w : Word). refusalOfWord w s) (sym known)))
 
 module _ (s : Settings) (scalar : ℕ) (file : List ℕ) (past : s .vl ≤ s .vstart) where
   no-elements : (S : ℕ → List ℕ → List ℕ) → steps S (s .vl - s .vstart) (s .vstart) file ≡ file
@@ -128,10 +128,17 @@ module _ (s : Settings) (scalar : ℕ) (file : List ℕ) (past : s .vl ≤ s .vs
   idle-word (Known k f) = idle k f
 
   -- where vstart is at or past vl, the file stays
-  pub nothing-done : (word : ℕ) → executed word s scalar file ≡ file
+  pub file-stays : (word : ℕ) → executed word s scalar file ≡ file
   unfolding executed
-  nothing-done word = go (eqb (refusalOf (length file) word s) 0)
+  file-stays word = go (eqb (refusalOf (length file) word s) 0)
     where
       go : (b : Bool) → cond b (done (decode word) s scalar file) file ≡ file
       go true = idle-word (decode word)
       go false = refl
+
+  -- if no refusal applies, moreover, the answer is 0, and vstart becomes 0
+  pub nothing-done : (word : ℕ) {k : Kind} {f : Fields} → decode word ≡ Known k f → Admitted (length file) k f s
+      → (refusalOf (length file) word s ≡ 0) × (vstartAfter (length file) word s ≡ 0) × (executed word s scalar file ≡ file)
+  nothing-done word known a =
+      let zero = none-applies (length file) word s known a in
+      (zero, sym (performed word s scalar file zero .0), file-stays word)

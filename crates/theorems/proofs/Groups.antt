@@ -23,7 +23,7 @@ use Rattle.vector_element.specs.Element.{blockPlace}
 use Rattle.vector_ghash.specs.GhashWords.{group, multiplierOf, vvStep, vsStep, ghashVv, ghashVs}
 use Rattle.theorems.specs.Execution.{Done}
 use Rattle.theorems.proofs.Fold.{Except, Does, fold-done}
-use Rattle.theorems.proofs.Registers.{Aligned, Ready, unread}
+use Rattle.theorems.proofs.Registers.{Aligned, Ready, group-fits, unread}
 
 -- where X is used, its group is aligned
 abbrev pub AlignedMultiplier : GhashMultiplier → Fields → Settings → Type 0
@@ -48,12 +48,6 @@ module _
     group-lt : (r i : ℕ) → group s file r i < 256 ^ 16
     group-lt r i = beAt-lt file bytes (blockPlace (s .vlen) r i) 16
 
-    -- group i ends within its register group
-    within : (i : ℕ) → i < s .vl / 4 → 16 * i + 16 ≤ groupLength (s .vlen) (s .lmul)
-    within i h =
-        let fits : s .vl * 4 ≤ groupLength (s .vlen) (s .lmul) = subst (λ (w : ℕ). s .vl * (w / 8) ≤ groupLength (s .vlen) (s .lmul)) sew32 (ready .elements-fit) in
-        omega arith
-
     apart : (i j : ℕ) → i < j → place i + 16 ≤ place j
     apart i j h = omega arith
 
@@ -61,7 +55,7 @@ module _
     source : (r i : ℕ) (g : List ℕ) → Aligned s r → i < s .vl / 4 → Except file g (place (s .vstart / 4)) (place i) → group s g r i ≡ group s file r i
     source r i g al h x =
         beAt-same g file (blockPlace (s .vlen) r i) 16
-        (λ p w. x .same p (λ b. unread r (f .vd) (groupRegisters (s .lmul)) (registerBytes (s .vlen)) (16 * i) 16 (16 * (s .vstart / 4)) p al vd-aligned (within i h) w b))
+        (λ p w. x .same p (λ b. unread r (f .vd) (groupRegisters (s .lmul)) (registerBytes (s .vlen)) (16 * i) 16 (16 * (s .vstart / 4)) p al vd-aligned (group-fits s ready sew32 i h) w b))
 
     multiplier-same : (i : ℕ) (g : List ℕ) → i < s .vl / 4 → Except file g (place (s .vstart / 4)) (place i) → multiplierOf m f s g i ≡ multiplierOf m f s file i
     multiplier-same i g h x = go m m-aligned
@@ -74,7 +68,7 @@ module _
     put-step : (i : ℕ) (g : List ℕ) (h : ℕ) → h < 256 ^ 16 → i < s .vl / 4 → Except file g (place (s .vstart / 4)) (place i)
         → Does g (putBlock g (place i) (product (multiplierOf m f s g i) h)) (place i) 16 true (λ l. group s l (f .vd) i) (product (multiplierOf m f s file i) h)
     put-step i g h small hi x =
-        let room : place i + 16 ≤ length g = omega (arith, x .same-length, within i hi, ready .in-file (f .vd) vd-small vd-aligned) in
+        let room : place i + 16 ≤ length g = omega (arith, x .same-length, group-fits s ready sew32 i hi, ready .in-file (f .vd) vd-small vd-aligned) in
         subst (λ (u : ℕ). Does g (putBlock g (place i) (product u h)) (place i) 16 true (λ l. group s l (f .vd) i) (product (multiplierOf m f s file i) h))
         (sym (multiplier-same i g hi x))
         (put-does g (place i) (product (multiplierOf m f s file i) h) room (product-lt (multiplierOf m f s file i) h small))

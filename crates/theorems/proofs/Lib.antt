@@ -5,6 +5,7 @@ pub mod Execution
 pub mod Fold
 pub mod Groups
 pub mod Marked
+pub mod Places
 pub mod Pseudocode
 pub mod Registers
 pub mod Reversal

@@ -31,6 +31,9 @@ Aligned s r = r % groupRegisters (s .lmul) ≡ 0
 
 pub record Ready (fileLength : ℕ) (s : Settings) : Type 0 where
   pub in-file : (r : ℕ) → r ≤ 31 → Aligned s r → r * registerBytes (s .vlen) + groupLength (s .vlen) (s .lmul) ≤ fileLength
+  -- a register holds a group of 128 bits, and lies in the file
+  pub sixteen : 16 ≤ registerBytes (s .vlen)
+  pub register-in-file : (r : ℕ) → r ≤ 31 → r * registerBytes (s .vlen) + registerBytes (s .vlen) ≤ fileLength
   pub sew-bytes : s .sew ≡ 8 * (s .sew / 8)
   -- the elements fit the group, and their mask bits register 0
   pub elements-fit : s .vl * (s .sew / 8) ≤ groupLength (s .vlen) (s .lmul)
@@ -45,6 +48,12 @@ eights sew = each-sew WholeBytes sew refl refl refl refl
 
 vlen-eights : (vlen : ℕ) → vlenAllowed vlen ≡ true → WholeBytes vlen
 vlen-eights vlen = each-vlen WholeBytes vlen refl refl refl
+
+at-least-16 : (vlen : ℕ) → vlenAllowed vlen ≡ true → 16 ≤ registerBytes vlen
+at-least-16 vlen = each-vlen (λ v. 16 ≤ registerBytes v) vlen (omega arith) (omega arith) (omega arith)
+
+register-within : (r vlen : ℕ) → r ≤ 31 → vlenAllowed vlen ≡ true → r * registerBytes vlen + registerBytes vlen ≤ fileBytes vlen
+register-within r vlen le = each-vlen (λ v. r * registerBytes v + registerBytes v ≤ fileBytes v) vlen (omega arith) (omega arith) (omega arith)
 
 -- vl elements of w bytes, where vl is at most VLMAX for registers of v bytes
 fit : (vl lmul v w : ℕ) → 0 < w → vl ≤ timesLmul lmul (8 * v) / (8 * w) → vl * w ≤ groupRegisters lmul * v
@@ -73,16 +82,32 @@ ready fileLength s h1 h3 =
     record {
       in-file = λ r hr al. subst (λ (n : ℕ). r * registerBytes (s .vlen) + groupLength (s .vlen) (s .lmul) ≤ n) (sym hf)
           (registers-within (s .vlen) r (s .lmul) hv (last-register (s .lmul) r hl hr al));
+      sixteen = at-least-16 (s .vlen) hv;
+      register-in-file = λ r hr. subst (λ (n : ℕ). r * registerBytes (s .vlen) + registerBytes (s .vlen) ≤ n) (sym hf)
+          (register-within r (s .vlen) hr hv);
       sew-bytes = w8;
       elements-fit = fits;
       masks-fit = le-trans (le-mul-of-pos-right (s .vl) w) (le-trans fits (mul-le-mul-right (s .vlen / 8) eight));
     }
+
+-- element i and group i end within their register group
+pub element-fits : {fileLength : ℕ} (s : Settings) → Ready fileLength s → (i : ℕ) → i < s .vl
+    → i * (s .sew / 8) + s .sew / 8 ≤ groupLength (s .vlen) (s .lmul)
+element-fits s ready i h = le-trans (le-of-eq (sym (suc-mul i (s .sew / 8)))) (le-trans (mul-le-mul-right (s .sew / 8) h) (ready .elements-fit))
+
+pub group-fits : {fileLength : ℕ} (s : Settings) → Ready fileLength s → s .sew ≡ 32 → (i : ℕ) → i < s .vl / 4
+    → 16 * i + 16 ≤ groupLength (s .vlen) (s .lmul)
+group-fits s ready sew32 i h =
+    let fits : s .vl * 4 ≤ groupLength (s .vlen) (s .lmul) = subst (λ (w : ℕ). s .vl * (w / 8) ≤ groupLength (s .vlen) (s .lmul)) sew32 (ready .elements-fit) in
+    omega arith
 
 -- ---- what the fields tell
 
 pub record Numbers (f : Fields) : Type 0 where
   pub vm-small : f .vm ≤ 1
   pub vd-small : f .vd ≤ 31
+  pub vs1-small : f .vs1 ≤ 31
+  pub vs2-small : f .vs2 ≤ 31
 
 among-fields : (ks : List Kind) (word : ℕ) {k : Kind} {f : Fields} → among ks word ≡ Known k f → fieldsOf word ≡ f
 among-fields [] word e = cc
@@ -96,7 +121,12 @@ pub numbers : (word : ℕ) {k : Kind} {f : Fields} → decode word ≡ Known k f
 unfolding decode
 numbers word {k} {f} e =
     subst Numbers (among-fields kinds word e)
-    (record { vm-small = le-of-suc-le-suc (mod-lt (word / 2 ^ 25) (zero-lt-suc 1)); vd-small = le-of-suc-le-suc (mod-lt (word / 2 ^ 7) (zero-lt-suc 31)) })
+    (record {
+      vm-small = le-of-suc-le-suc (mod-lt (word / 2 ^ 25) (zero-lt-suc 1));
+      vd-small = le-of-suc-le-suc (mod-lt (word / 2 ^ 7) (zero-lt-suc 31));
+      vs1-small = le-of-suc-le-suc (mod-lt (word / 2 ^ 15) (zero-lt-suc 31));
+      vs2-small = le-of-suc-le-suc (mod-lt (word / 2 ^ 20) (zero-lt-suc 31));
+    })
 
 pub aligned : (lmul r : ℕ) → misaligned lmul r ≡ false → r % groupRegisters lmul ≡ 0
 aligned lmul r h = eqb-true (r % groupRegisters lmul) 0 (not-false (eqb (r % groupRegisters lmul) 0) h)

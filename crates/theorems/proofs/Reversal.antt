@@ -6,7 +6,7 @@ use mathlib.Core.Bool.{Bool, true, false, cond}
 use mathlib.Core.List.{List}
 use mathlib.Core.Path.{_≡_, refl, sym, ap, ap₂, subst, _∙_}
 use Prim.Native.Nat.{ℕ, zero, suc, _+_, _-_, _*_, _/_, _%_, _^_, _<_, _≤_}
-use native.Mathlib.Nat.{add-zero, add-suc, add-assoc, add-mul, zero-mul, one-mul, mul-one, mul-assoc, mul-comm, zero-lt-suc, lt-of-lt-of-le, le-of-eq, le-refl, pow-suc, pow-succ', mod-lt, mod-one, div-one, div-eq-of-lt, zero-div, mod-eq-of-lt, zero-add}
+use native.Mathlib.Nat.{add-zero, add-suc, add-assoc, add-mul, zero-mul, one-mul, mul-one, mul-assoc, mul-comm, zero-lt-suc, lt-of-lt-of-le, le-of-eq, le-refl, pow-suc, pow-succ', one-le-pow, mod-lt, mod-one, div-one, div-eq-of-lt, zero-div, mod-eq-of-lt, zero-add}
 use native.Mathlib.Numerals.{add-one, one-add}
 use native.Mathlib.Omega.{arith}
 use lib.Arith.{digits-lt, digits-div, digits-mod, mod-mul}
@@ -196,6 +196,15 @@ brev8-xor (suc n) x y =
     ap₂ (λ (q r : ℕ). q * 256 + r) (ap (brev8Of n) (xor-shr x y 8) ∙ brev8-xor n (x / 256) (y / 256))
     (ap (reversed 8) (xor-mod x y 8) ∙ reversed-xor 8 (x % 256) (y % 256))
     ∙ sym (xor-block 8 (brev8Of n (x / 256)) (brev8Of n (y / 256)) (reversed 8 (x % 256)) (reversed 8 (y % 256)) (reversed-lt 8 (x % 256)) (reversed-lt 8 (y % 256)))
+
+pub brev8-twice : (n x : ℕ) → brev8Of n (brev8Of n x) ≡ x % 256 ^ n
+unfolding brev8Of
+brev8-twice zero x = sym (mod-one x)
+brev8-twice (suc n) x =
+    let low = reversed-lt 8 (x % 256) in
+    ap₂ (λ (q r : ℕ). brev8Of n q * 256 + reversed 8 r) (digits-div (brev8Of n (x / 256)) low) (digits-mod (brev8Of n (x / 256)) low)
+    ∙ ap₂ (λ (q r : ℕ). q * 256 + r) (brev8-twice n (x / 256)) (reversed-twice 8 (x % 256) ∙ mod-eq-of-lt (mod-lt x (zero-lt-suc 255)))
+    ∙ sym (ap (λ (k : ℕ). x % k) (pow-suc 256 n) ∙ mod-mul x (one-le-pow n 256 (zero-lt-suc 255)) (zero-lt-suc 255))
 
 eight-more : (n : ℕ) → 8 * suc n ≡ 8 + 8 * n
 eight-more n = omega arith

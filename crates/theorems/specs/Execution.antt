@@ -2,7 +2,7 @@
 -- word, and a group of 128 bits in a GHASH word.
 -- Assumes nothing.
 use Prim.Native.Nat.{ℕ, _+_, _/_, _<_, _≤_}
-use mathlib.Core.Bool.{Bool, true, cond, _||_}
+use mathlib.Core.Bool.{Bool, true, false, cond, _||_}
 use mathlib.Core.List.{List}
 use mathlib.Core.Path.{_≡_}
 use lib.Bits.{bitXor}
@@ -12,7 +12,11 @@ use Rattle.vector_registers.specs.declared.settings.Settings.{Settings}
 use Rattle.vector_word.specs.declared.Fields.{Fields}
 use Rattle.vector_word.specs.declared.Kind.{Kind}
 use Rattle.vector_word.specs.declared.Kind.the-variants.{VclmulVv, VclmulVx, VclmulhVv, VclmulhVx, VghshVv, VghshVs, VgmulVv, VgmulVs}
-use Rattle.vector_word.specs.Kinds.{isGhash}
+use Rattle.vector_word.specs.declared.Word.the-variants.{Known}
+use Rattle.vector_word.specs.Kinds.{isGhash, isVs, hasVs1Group}
+use Rattle.vector_word.specs.Word.{decode}
+use Rattle.vector_registers.specs.Settings.{registerBytes}
+use Rattle.vector_refusal.specs.Refusal.{refusalOf}
 use Rattle.vector_element.specs.Clmul.{clmul64, lowHalf, highHalf}
 use Rattle.vector_element.specs.Element.{elementAt, blockPlace}
 use Rattle.vector_clmul.specs.Carryless.{active, element, scalarOf}
@@ -29,12 +33,16 @@ pastUnit k s = cond (isGhash k) (s .vl / 4) (s .vl)
 abbrev pub activeUnit : Kind → Fields → List ℕ → ℕ → Bool
 activeUnit k f file i = isGhash k || active f file i
 
--- a unit's bytes, and where unit i of vd's group starts
+-- a unit's bytes, and where unit i of a register group starts
 abbrev pub unitBytes : Kind → Settings → ℕ
 unitBytes k s = cond (isGhash k) 16 (s .sew / 8)
 
+abbrev pub placeIn : Kind → Settings → ℕ → ℕ → ℕ
+placeIn k s register i = cond (isGhash k) (blockPlace (s .vlen) register i) (elementAt (s .vlen) (s .sew) register i)
+
+-- of vd's group
 abbrev pub unitPlace : Kind → Fields → Settings → ℕ → ℕ
-unitPlace k f s i = cond (isGhash k) (blockPlace (s .vlen) (f .vd) i) (elementAt (s .vlen) (s .sew) (f .vd) i)
+unitPlace k f s i = placeIn k s (f .vd) i
 
 -- unit i of vd's group in a file
 abbrev pub unitOf : Kind → Fields → Settings → ℕ → List ℕ → ℕ
@@ -68,3 +76,21 @@ pub record Done
 abbrev pub WordDone : Kind → Fields → Settings → ℕ → List ℕ → List ℕ → Type 0
 WordDone k f s scalar file out =
     Done file out (firstUnit k s) (pastUnit k s) (unitBytes k s) (unitPlace k f s) (activeUnit k f file) (unitOf k f s) (resultOf k f s scalar file)
+
+-- ---- what is read and written lies inside the file
+
+pub record PlacesInFile (fileLength : ℕ) (k : Kind) (f : Fields) (s : Settings) : Type 0 where
+  -- the units of vd, which are read and written, and those of the groups that are read
+  pub vd : (i : ℕ) → i < pastUnit k s → placeIn k s (f .vd) i + unitBytes k s ≤ fileLength
+  pub vs1 : hasVs1Group k ≡ true → (i : ℕ) → i < pastUnit k s → placeIn k s (f .vs1) i + unitBytes k s ≤ fileLength
+  pub vs2 : isVs k ≡ false → (i : ℕ) → i < pastUnit k s → placeIn k s (f .vs2) i + unitBytes k s ≤ fileLength
+  -- the key of a .vs word: group 0 of vs2
+  pub key : isVs k ≡ true → blockPlace (s .vlen) (f .vs2) 0 + 16 ≤ fileLength
+  -- the byte of mask bit i is one of register 0
+  pub mask : (i : ℕ) → i < s .vl → (i / 8 < registerBytes (s .vlen)) × (i / 8 < fileLength)
+
+-- of every word that is not refused
+abbrev pub EveryPlaceInFile : Type 0
+EveryPlaceInFile =
+    (fileLength word : ℕ) (s : Settings) → refusalOf fileLength word s ≡ 0
+    → (k : Kind) (f : Fields) → decode word ≡ Known k f → PlacesInFile fileLength k f s
