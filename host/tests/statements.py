@@ -4,10 +4,10 @@
     statements.py               checks the page, and says how many must-fail edits it does not name
     statements.py --self-test   puts names that are nowhere into a copy of the page: each must be found out
 
-A name is one of these: `crate/specs/File: a, b` or `crate/proofs/File: a .. b` (definitions, theorems), `crate::module::f` or
-`crate::module::*` (functions), `f` after such a name in the same cell or paragraph (of that crate, or of that file), `rvghash_f`
-(a C function), a crate, a must-fail edit after its crate and a colon, one outside tables without its crate, a path of the tree,
-`make target`, or one of the literals below.
+A name is one of these: `crate/specs/File: a, b` or `crate/proofs/File: a .. b` (definitions, theorems), `crate/specs/File`,
+`crate::module::f` (a function, struct or constant), `crate::module` or `crate::module::*`, `f` after such a name in the same cell
+or paragraph (of that crate, or of that file), `rvghash_f` or `RVGHASH_F` (a name of the header), a crate, a must-fail edit after
+its crate and a colon, one outside tables without its crate, a path of the tree, `make target`, or one of the literals below.
 """
 import glob
 import os
@@ -38,9 +38,9 @@ def declares(file, name):
 
 
 def has_function(crate, modules, name):
-    """Whether a module has such a function or struct, or the crate has it anywhere where no module is given."""
+    """Whether a module has such a function, struct, field or constant; where no module is given, the crate anywhere."""
     files = [f"crates/{crate}/src/{'/'.join(modules)}.rt"] if modules else glob.glob(f"crates/{crate}/src/**/*.rt", recursive=True)
-    return any(re.search(rf"\b(?:fn|struct|enum|const) {re.escape(name)}\b", read(file)) for file in files)
+    return any(re.search(rf"\b(?:(?:fn|struct|enum|const) {re.escape(name)}\b|pub {re.escape(name)}:)", read(file)) for file in files)
 
 
 class Reader:
@@ -66,25 +66,27 @@ class Reader:
         if self.crate_of_edits:
             self.named_edits.add((self.crate_of_edits, name))
             return [] if (self.crate_of_edits, name) in EDITS else [f"the edit {name} of {self.crate_of_edits}"]
-        definitions = re.fullmatch(r"(\w+)/(specs|proofs)/(\w+):\s(.*)", name, re.S)
+        definitions = re.fullmatch(r"(\w+)/(specs|proofs)/(\w+)(?::\s(.*))?", name, re.S)
         if definitions:
             crate, part, file, names = definitions.groups()
             self.file = f"crates/{crate}/{part}/{file}.antt"
-            return [f"{crate}/{part}/{file}: {n}" for n in re.split(r"[,\s]+", names)
+            if not os.path.exists(self.file):
+                return [name]
+            return [f"{crate}/{part}/{file}: {n}" for n in re.split(r"[,\s]+", names or "")
                     if n not in ("", "..") and not declares(self.file, n)]
         if "::" in name:
-            self.crate, *modules, function = name.split("::")
-            if function == "*":
-                return [] if read(f"crates/{self.crate}/src/{'/'.join(modules)}.rt") else [name]
-            return [] if has_function(self.crate, modules or ["lib"], function) else [name]
+            self.crate, *modules, last = name.removesuffix("::*").split("::")
+            is_module = os.path.exists(f"crates/{self.crate}/src/{'/'.join([*modules, last])}.rt")
+            is_function = not name.endswith("*") and has_function(self.crate, modules or ["lib"], last)
+            return [] if is_module or is_function else [name]
         return [] if self.bare(name) else [name]
 
     def bare(self, name):
         """Whether a name that stands alone is in the tree."""
         if name in LITERALS or name in CRATES or os.path.exists(name.rstrip("/")):
             return True
-        if name.startswith("rvghash_"):
-            return has_function("rvghash", [], name)
+        if name.lower().startswith("rvghash_"):
+            return re.search(rf"\b{name}\b", read("include/rvghash.h")) is not None
         if name.startswith("make "):
             return re.search(rf"^{re.escape(name[5:])}:", read("Makefile"), re.M) is not None
         if self.crate and has_function(self.crate, [], name) or self.file and declares(self.file, name):
@@ -133,6 +135,8 @@ NOWHERE = [
     ("new_was_fresh_before", "| a promise | `rvghash_execute` | `new_was_fresh_before` |"),
     ("rvghash_no_such_function", "The file is what `rvghash_no_such_function` leaves."),
     ("host/no_such_file", "It is tried by `host/no_such_file`."),
+    ("gf128/specs/Feild", "| a promise | `gf128/specs/Feild` | the check itself |"),
+    ("vector_word::no_such_module", "| a promise | `vector_word::no_such_module` | the check itself |"),
 ]
 
 
