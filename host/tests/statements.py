@@ -122,6 +122,8 @@ def check(text):
     return count, missing, edits
 
 
+AN_EDIT = min(EDITS)[1]
+
 # Names that are nowhere, and a line of a page that has each: in a paragraph or in a row of a table.
 NOWHERE = [
     ("half_ofx", "| a promise | `vector_element::clmul::clmul64`, `half_ofx` | the check itself |"),
@@ -131,8 +133,8 @@ NOWHERE = [
     ("vector_word::decoder", "The words are decoded by `vector_word::decoder`."),
     ("gf128/specs/Field: produkt", "| a promise | `gf128/specs/Field: product, produkt` | the check itself |"),
     ("the edit no_such_edit of rvghash", "| a promise | `rvghash_execute` | rvghash: `no_such_edit` |"),
-    ("the edit new_was_fresh_before of rvgash", "| a promise | `rvghash_execute` | rvgash: `new_was_fresh_before` |"),
-    ("new_was_fresh_before", "| a promise | `rvghash_execute` | `new_was_fresh_before` |"),
+    (f"the edit {AN_EDIT} of no_such_crate", f"| a promise | `rvghash_execute` | no_such_crate: `{AN_EDIT}` |"),
+    (AN_EDIT, f"| a promise | `rvghash_execute` | `{AN_EDIT}` |"),
     ("rvghash_no_such_function", "The file is what `rvghash_no_such_function` leaves."),
     ("host/no_such_file", "It is tried by `host/no_such_file`."),
     ("gf128/specs/Feild", "| a promise | `gf128/specs/Feild` | the check itself |"),
