@@ -42,10 +42,18 @@ static uint64_t any(void)
     return seed;
 }
 
-static void fail(const char *what, unsigned long turn)
+static void fail(const char *what, const char *where)
 {
-    printf("traps: %s (call %lu of the file)\n", what, turn);
+    printf("traps: %s: %s\n", where, what);
     exit(1);
+}
+
+/* The name of a call of the file. */
+static const char *call_name(unsigned long turn)
+{
+    static char name[40];
+    snprintf(name, sizeof name, "call %lu of the file", turn);
+    return name;
 }
 
 /* The action before the handler's: a refused word traps again and comes here, and is passed over. */
@@ -61,7 +69,7 @@ static void install(void)
 {
     struct sigaction action = {.sa_sigaction = refused, .sa_flags = SA_SIGINFO};
     if (sigaction(SIGILL, &action, NULL) != 0 || trap_install() != 0)
-        fail("no handler", 0);
+        fail("no handler", "sigaction");
 }
 
 static int handles(void (*handler)(int, siginfo_t *, void *))
@@ -129,7 +137,7 @@ static int allowed(const struct call *c)
 }
 
 /* Executes the word in a state that is otherwise any, and compares all of it. */
-static void trap(uint32_t word, struct state *s, int is_done, const struct call *c, unsigned long turn)
+static void trap(uint32_t word, struct state *s, int is_done, const struct call *c, const char *where)
 {
     static struct state after, unset;
     after = unset;
@@ -137,19 +145,19 @@ static void trap(uint32_t word, struct state *s, int is_done, const struct call 
     unsigned long before = refusals;
     ((void (*)(struct state *, struct state *))(void *)room)(s, &after);
     if ((refusals == before) != is_done || handles(trap_illegal) != is_done)
-        fail(is_done ? "a word is refused" : "a word is not refused", turn);
+        fail(is_done ? "a word is refused" : "a word is not refused", where);
     if (!is_done)
         install();
     if (c != NULL)
         expect(s, c);
     if (memcmp(s->file, after.file, file_bytes) != 0)
-        fail("the vector registers differ", turn);
+        fail("the vector registers differ", where);
     if (memcmp(s->x + 1, after.x + 1, sizeof s->x - 8) != 0 || memcmp(s->f, after.f, sizeof s->f) != 0)
-        fail("the x or f registers differ", turn);
+        fail("the x or f registers differ", where);
     if (s->vstart != after.vstart)
-        fail("vstart differs", turn);
+        fail("vstart differs", where);
     if (s->fcsr != after.fcsr || s->vl != after.vl || s->vtype != after.vtype || s->vcsr != after.vcsr)
-        fail("fcsr, vl, vtype or vcsr differs", turn);
+        fail("fcsr, vl, vtype or vcsr differs", where);
 }
 
 static struct state any_state(void)
@@ -166,7 +174,7 @@ static struct state any_state(void)
 
 static unsigned long live, live_refused, live_refused_in_course; /* with vstart not 0 */
 
-static void trap_case(const struct call *c, unsigned long turn)
+static void trap_case(const struct call *c, const char *where)
 {
     struct state s = any_state();
     if (!allowed(c) || !vtype_of(c, &s.vtype))
@@ -175,32 +183,34 @@ static void trap_case(const struct call *c, unsigned long turn)
     s.vstart = vstart_of(c);
     s.x[rs1_of(c)] = c->scalar[SCALAR];
     memcpy(s.file, c->buffer[1].content, file_bytes);
-    trap((uint32_t)c->scalar[WORD], &s, c->answer == RVGHASH_DONE, c, turn);
+    trap((uint32_t)c->scalar[WORD], &s, c->answer == RVGHASH_DONE, c, where);
     if (s.vl != c->scalar[VL])
-        fail("the core takes another vl", turn);
+        fail("the core takes another vl", where);
     live++;
     live_refused += c->answer != RVGHASH_DONE;
     live_refused_in_course += c->answer != RVGHASH_DONE && vstart_of(c) != 0;
 }
 
-/* Words that the oracle's settings have no name for, each with vstart not 0: vill, a fraction as LMUL, a 16-bit word. */
+/* Refusals that no case of the oracle has. Each of these words would be done under the settings that a careless look at vtype
+ * or at the word gives, and would then set vstart to 0. */
 static void trap_others(void)
 {
+    enum { VCLMUL_VX = 0x3301E457 /* v8, v16, x3 */, VGHSH_VV = 0xB2862277 /* v4, v8, v12 */, E32 = 2 << 3 };
     static const struct { uint32_t word; uint64_t vtype; const char *what; } others[] = {
-        {0xB2862277, 4, "vghsh.vv under vill"},
-        {0xB2862277, 2 << 3 | 7, "vghsh.vv at LMUL 1/2"},
-        {0x3221E0D7, 6, "vclmul.vx at LMUL 1/4"},
-        {0x0000, 2 << 3, "the 16-bit word of zeros"},
-        {0xB0862277, 2 << 3, "vghsh.vv with vm 0"},
+        {VCLMUL_VX, 4, "a reserved LMUL, which sets vill"},
+        {VCLMUL_VX, 5, "LMUL 1/8"},
+        {VCLMUL_VX, 6, "LMUL 1/4"},
+        {VCLMUL_VX, 7, "LMUL 1/2"},
+        {VGHSH_VV & ~(1u << 25), E32, "vghsh.vv with vm 0"},
+        {0, E32, "the 16-bit word of zeros"},
     };
     for (size_t i = 0; i < sizeof others / sizeof others[0]; i++) {
         struct state s = any_state();
         s.vtype = others[i].vtype;
-        s.vl = 1;
-        s.vstart = 3;
-        trap(others[i].word, &s, 0, NULL, i);
-        if (s.vstart != 3)
-            fail(others[i].what, i);
+        s.vl = s.vstart = 4;
+        trap(others[i].word, &s, 0, NULL, others[i].what);
+        if (s.vstart != 4)
+            fail("the core takes another vstart", others[i].what);
     }
 }
 
@@ -225,7 +235,7 @@ static struct vector_frame *vector_of(struct frame *f)
 static unsigned long framed, framed_refused;
 
 /* Hands the handler a frame, and compares every byte of it. */
-static void frame_case(const struct call *c, unsigned long turn)
+static void frame_case(const struct call *c, const char *where)
 {
     static struct frame f, expected;
     static uint16_t code[3];
@@ -259,9 +269,9 @@ static void frame_case(const struct call *c, unsigned long turn)
     }
     trap_illegal(SIGILL, NULL, &f.context);
     if (memcmp(&f, &expected, sizeof f) != 0)
-        fail("the signal frame differs", turn);
+        fail("the signal frame differs", where);
     if (handles(c->answer == RVGHASH_DONE ? refused : trap_illegal))
-        fail("the signal's action after a frame", turn);
+        fail("the signal's action is not as it must be", where);
     if (c->answer != RVGHASH_DONE)
         install();
     framed++;
@@ -288,10 +298,10 @@ static void all_cases(const char *path)
     for (unsigned long turn = 0; at != NULL && at < file + length; turn++) {
         at = take_call(at, &c);
         if (at == NULL)
-            fail("the file is not as the oracle writes it", turn);
+            fail("the file is not as the oracle writes it", call_name(turn));
         if (c.function == EXECUTE) {
-            trap_case(&c, turn);
-            frame_case(&c, turn);
+            trap_case(&c, call_name(turn));
+            frame_case(&c, call_name(turn));
         }
     }
 }
@@ -316,7 +326,7 @@ int main(int argc, char **argv)
     }
     room = mmap(NULL, 4096, PROT_READ | PROT_WRITE | PROT_EXEC, MAP_PRIVATE | MAP_ANONYMOUS, -1, 0);
     if (room == MAP_FAILED || file_bytes > RVGHASH_FILE_BYTES(512))
-        fail("no room, or VLEN is over 512", 0);
+        fail("no memory, or VLEN is over 512", "set-up");
     memcpy(room, word_start, (size_t)(word_end - word_start));
     install();
     trap_others();
