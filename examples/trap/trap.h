@@ -1,4 +1,4 @@
-/* Executes trapped vector GHASH and carry-less multiply instructions in a process on RISC-V: copy trap.h and trap.c. */
+/* Executes trapped vector GHASH and carry-less multiply instructions in a process on RISC-V; see trap.c. */
 #ifndef TRAP_H
 #define TRAP_H
 
