@@ -44,11 +44,9 @@ static void *lend(struct place *p, const struct lent *l, uint32_t turn)
 
 static int as_expected(const struct place *p, const struct lent *l)
 {
-    for (size_t i = p->at < AROUND ? 0 : p->at - AROUND; i < p->at + l->length + AROUND && i < ROOM; i++) {
-        int is_free = i >= p->at + l->compared && i < p->at + l->length;
-        if (!is_free && p->memory[i] != p->expected[i])
+    for (size_t i = p->at < AROUND ? 0 : p->at - AROUND; i < p->at + l->length + AROUND && i < ROOM; i++)
+        if (p->memory[i] != p->expected[i])
             return 0;
-    }
     return 1;
 }
 

@@ -25,9 +25,7 @@ enum scalar { WORD, VLEN, SEW, LMUL, VL, SCALAR, SCALARS }; /* of EXECUTE; its b
 
 /* A buffer that the call is lent: its content, and the part of it that the call must change. */
 struct lent {
-    uint32_t length, align;
-    uint32_t compared; /* the bytes after so many are free */
-    uint32_t change_at, change_length;
+    uint32_t length, align, change_at, change_length;
     const uint8_t *content, *change;
 };
 
@@ -65,7 +63,6 @@ static const uint8_t *take_call(const uint8_t *at, struct call *c)
         struct lent *l = &c->buffer[i];
         l->length = take_u32(&at);
         l->align = take_u32(&at);
-        l->compared = take_u32(&at);
         l->change_at = take_u32(&at);
         l->change_length = take_u32(&at);
         l->content = at;

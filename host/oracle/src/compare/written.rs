@@ -45,12 +45,10 @@ struct Lent<'a> {
     align: u32,
     before: &'a [u8],
     after: &'a [u8],
-    /// So many bytes must be those of `after`; the rest is free.
-    compared: usize,
 }
 
 fn lent<'a>(align: u32, before: &'a [u8], after: &'a [u8]) -> Lent<'a> {
-    Lent { align, before, after, compared: after.len() }
+    Lent { align, before, after }
 }
 
 fn read(bytes: &Bytes) -> Lent<'_> {
@@ -75,9 +73,9 @@ impl Cases {
     /// The content before, and the part of it that changes.
     fn buffer(&mut self, b: &Lent) -> Result<()> {
         let differs = |&i: &usize| b.before[i] != b.after[i];
-        let start = (0..b.compared).find(differs).unwrap_or(0);
-        let end = (0..b.compared).rev().find(differs).map_or(0, |last| last + 1);
-        self.numbers(&[b.before.len(), b.align as usize, b.compared, start, end - start].map(|n| n as u32))?;
+        let start = (0..b.before.len()).find(differs).unwrap_or(0);
+        let end = (0..b.before.len()).rev().find(differs).map_or(0, |last| last + 1);
+        self.numbers(&[b.before.len(), b.align as usize, start, end - start].map(|n| n as u32))?;
         self.out.write_all(b.before)?;
         self.out.write_all(&b.after[start..end])
     }
@@ -107,7 +105,7 @@ impl Cases {
             rng.bytes(len)
         });
         let steps = cut(rng, &key, &a, &c);
-        self.pieces(rng, &key, &steps)?;
+        self.pieces(&key, &steps)?;
         let bad = rng.pick(&[0, 0, 0, 100]);
         let (key, out, a, c) = (perhaps_odd(rng, key, bad), out_before(rng, bad), Bytes(a), Bytes(c));
         let model = ghash_call(&key.0, &a.0, &c.0, out.0.len());
@@ -119,12 +117,12 @@ impl Cases {
         Ok(())
     }
 
-    fn pieces(&mut self, rng: &mut Rng, key: &Block, steps: &[Step]) -> Result<()> {
+    fn pieces(&mut self, key: &Block, steps: &[Step]) -> Result<()> {
         let (mut fed, mut before) = (Fed::default(), FRESH);
         for step in steps {
             let answer = fed.apply(step.key.0.len(), step.call());
             let after = fed.state(key);
-            self.running(rng, &before, step, answer, &after)?;
+            self.running(&before, step, answer, &after)?;
             before = after;
         }
         Ok(())
@@ -134,14 +132,14 @@ impl Cases {
         let before = any_state(rng);
         let step = any_step(rng, &before);
         let (answer, after) = transition(&before, &step.key.0, step.call());
-        self.running(rng, &before, &step, answer, &after)
+        self.running(&before, &step, answer, &after)
     }
 
-    fn running(&mut self, rng: &mut Rng, before: &State, s: &Step, answer: u32, after: &State) -> Result<()> {
+    fn running(&mut self, before: &State, s: &Step, answer: u32, after: &State) -> Result<()> {
         let finished = if answer == 0 { after.y } else { ZERO };
         let out = out_after(&s.out, finished);
-        let (before, after) = (to_memory(rng, before), to_memory(rng, after));
-        let running = Lent { compared: PADDING_AT, ..lent(8, &before, &after) };
+        let (before, after) = (to_memory(before), to_memory(after));
+        let running = lent(8, &before, &after);
         let function = Function::Running(s.which, s.path);
         match s.which {
             Which::Finish => self.call(function, answer, &[], &[running, read(&s.key), lent(1, &s.out.0, &out.0)]),
@@ -149,9 +147,6 @@ impl Cases {
         }
     }
 }
-
-/// The bytes of a running hash after its fields are free.
-const PADDING_AT: usize = 41;
 
 /// Writes the cases of this seed.
 pub fn write(run: &Run, path: &str) -> Result<()> {
