@@ -1,5 +1,6 @@
 -- A number as two halves of k digits each: how xor, times x and a coefficient go by the halves.
--- Main results: `halves-xor`, `halves-shifted`, `halves-timesX`, `high-coefficient`, `low-coefficient`. Assumes nothing.
+-- Main results: `halves-lt`, `halves-xor`, `halves-moved`, `halves-shifted`, `halves-timesX`, `high-coefficient`, `low-coefficient`.
+-- Assumes nothing.
 use mathlib.Core.Path.{_≡_, sym, ap, ap₂, _∙_, subst}
 use Prim.Native.Nat.{ℕ, suc, _+_, _-_, _*_, _/_, _%_, _^_, _≤_, _<_}
 use native.Mathlib.Nat.{add-zero, add-assoc, add-comm, add-mul, mul-assoc, mul-comm, mod-lt, mod-eq-of-lt, div-eq-of-lt, mul-add-div-right, mul-add-mod-self-right, add-sub-assoc}
@@ -10,6 +11,9 @@ use lib.Bits.{bitXor, xor-block, xor-zero-r, block-odd}
 use Rattle.gf128.specs.Field.{coeffOf, timesXOf, shiftedOf}
 use Rattle.gf128.proofs.Nibbles.{shiftedOf-overflow}
 
+pub halves-lt : (k a r : ℕ) → a < 2 ^ k → r < 2 ^ k → a * 2 ^ k + r < 2 ^ (k + k)
+halves-lt k a r h l = rw (pow-add 2 k k) (digits-lt h l)
+
 pub halves-xor : (k a b r s : ℕ) → r < 2 ^ k → s < 2 ^ k
     → bitXor a b * 2 ^ k + bitXor r s ≡ bitXor (a * 2 ^ k + r) (b * 2 ^ k + s)
 halves-xor k a b r s hr hs = sym (xor-block k a b r s hr hs)
@@ -19,8 +23,8 @@ module _ (i j a r : ℕ) where
   whole : a * 2 ^ (i + j) ≡ a * 2 ^ i * 2 ^ j
   whole = ap (λ (x : ℕ). a * x) (pow-add 2 i j) ∙ sym (mul-assoc a (2 ^ i) (2 ^ j))
 
-  moved : (a * 2 ^ (i + j) + r) / 2 ^ j ≡ a / 2 ^ j * 2 ^ (i + j) + (r / 2 ^ j + a % 2 ^ j * 2 ^ i)
-  moved =
+  pub halves-moved : (a * 2 ^ (i + j) + r) / 2 ^ j ≡ a / 2 ^ j * 2 ^ (i + j) + (r / 2 ^ j + a % 2 ^ j * 2 ^ i)
+  halves-moved =
       ap (λ (x : ℕ). (x + r) / 2 ^ j) whole
       ∙ mul-add-div-right (pow-pos j) (a * 2 ^ i) r
       ∙ ap (λ (x : ℕ). x + r / 2 ^ j)
@@ -46,7 +50,7 @@ module _ (i j a r : ℕ) where
       let low = r / 2 ^ j + a % 2 ^ j * 2 ^ i in
       ap (λ (x : ℕ). bitXor (a / 2 ^ j) e * 2 ^ (i + j) + x) (sym (xor-zero-r low))
       ∙ halves-xor (i + j) (a / 2 ^ j) e low 0 (moved-lt h) (pow-pos (i + j))
-      ∙ ap₂ bitXor (sym moved) (add-zero (e * 2 ^ (i + j)) ∙ rule ∙ ap (λ (x : ℕ). shiftedOf R x j) (sym left))
+      ∙ ap₂ bitXor (sym halves-moved) (add-zero (e * 2 ^ (i + j)) ∙ rule ∙ ap (λ (x : ℕ). shiftedOf R x j) (sym left))
       ∙ sym (shiftedOf-overflow R (a * 2 ^ (i + j) + r) j)
 
 -- once: R is the high half of the reduction, and its low half is zero

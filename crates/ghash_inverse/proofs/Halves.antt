@@ -1,16 +1,13 @@
--- A number as two halves of w digits each, divided by 2 ^ k. Main results: `shift-less` (k below w), `shift-more` (k from w on), `halves-lt`.
+-- A number as two halves of w digits each, divided by 2 ^ k. Main results: `shift-less` (k below w), `shift-more` (k from w on).
 -- Assumes nothing.
 use mathlib.Core.Path.{_≡_, sym, ap, ap₂, _∙_}
 use Prim.Native.Nat.{ℕ, suc, _+_, _-_, _*_, _/_, _%_, _^_, _<_, _≤_}
-use native.Mathlib.Nat.{add-zero, zero-add, add-assoc, add-mul, mul-assoc, zero-mul, mul-mod-left, mul-add-div-right, pow-suc}
+use native.Mathlib.Nat.{add-zero, zero-add, add-comm, mul-assoc, zero-mul, mul-mod-left, pow-suc}
 use native.Mathlib.Numerals.{one-add, add-one}
 use native.Mathlib.Omega.{arith}
-use lib.Arith.{digits-lt}
 use lib.Bits.{bitOr, or-shifted-r}
-use lib.Pow.{pow-pos, pow-add, shl-shr, shr-shr, shr-lt, split, high, mod-pow-add, mod-mod-pow}
-
-pub halves-lt : (w a r : ℕ) → a < 2 ^ w → r < 2 ^ w → a * 2 ^ w + r < 2 ^ (w + w)
-halves-lt w a r h l = rw (pow-add 2 w w) (digits-lt h l)
+use lib.Pow.{shl-shr, shr-shr, shr-lt, high, mod-pow-add, mod-mod-pow}
+use Rattle.ghash_block.proofs.Halves.{halves-moved}
 
 -- the digits that stay when v moves j digits up
 moved : (v k j : ℕ) → v * 2 ^ j % 2 ^ (k + j) ≡ v % 2 ^ k * 2 ^ j
@@ -34,17 +31,11 @@ shift-less u k a r l h =
     let j = suc (u - k) in
     let e : k + j ≡ suc u = omega arith in
     let f : j + k ≡ suc u = omega arith in
-    ap (λ (x : ℕ). a / 2 ^ k * 2 ^ suc u + x)
+    ap₂ (λ (x y : ℕ). a / 2 ^ k * 2 ^ x + y) (sym f)
     (ap (bitOr (r / 2 ^ k)) (moved-twice a (u - k) u ∙ ap (λ (x : ℕ). a * 2 ^ j % 2 ^ x) (sym e) ∙ moved a k j)
-    ∙ or-shifted-r (a % 2 ^ k) j (r / 2 ^ k) (shr-lt j k (rw f h)))
-    ∙ sym (add-assoc (a / 2 ^ k * 2 ^ suc u) (a % 2 ^ k * 2 ^ j) (r / 2 ^ k))
-    ∙ ap (λ (x : ℕ). x + r / 2 ^ k)
-    (ap (λ (x : ℕ). a / 2 ^ k * 2 ^ x + a % 2 ^ k * 2 ^ j) (sym e)
-    ∙ ap (λ (x : ℕ). x + a % 2 ^ k * 2 ^ j) (ap (λ (x : ℕ). a / 2 ^ k * x) (pow-add 2 k j) ∙ sym (mul-assoc (a / 2 ^ k) (2 ^ k) (2 ^ j)))
-    ∙ sym (add-mul (a / 2 ^ k * 2 ^ k) (a % 2 ^ k) (2 ^ j))
-    ∙ ap (λ (x : ℕ). x * 2 ^ j) (split a k))
-    ∙ sym (mul-add-div-right (pow-pos k) (a * 2 ^ j) r)
-    ∙ ap (λ (x : ℕ). (x + r) / 2 ^ k) (mul-assoc a (2 ^ j) (2 ^ k) ∙ ap (λ (x : ℕ). a * x) (sym (pow-add 2 j k) ∙ ap (λ (x : ℕ). 2 ^ x) f))
+    ∙ or-shifted-r (a % 2 ^ k) j (r / 2 ^ k) (shr-lt j k (rw f h)) ∙ add-comm (a % 2 ^ k * 2 ^ j) (r / 2 ^ k))
+    ∙ sym (halves-moved j k a r)
+    ∙ ap (λ (x : ℕ). (a * 2 ^ x + r) / 2 ^ k) f
 
 pub shift-more : (w k a r : ℕ) → w ≤ k → r < 2 ^ w → 0 * 2 ^ w + a / 2 ^ (k - w) ≡ (a * 2 ^ w + r) / 2 ^ k
 shift-more w k a r l h =
