@@ -13,7 +13,7 @@ use lib.ListN.{length}
 use lib.Pow.{pow-add, pow-pos}
 use Rattle.vector_registers.specs.declared.settings.Settings.{Settings}
 use Rattle.vector_word.specs.declared.Fields.{Fields}
-use Rattle.vector_registers.specs.Settings.{registerBytes, groupRegisters, groupLength}
+use Rattle.vector_registers.specs.Settings.{registerBytes, groupRegisters}
 use Rattle.vector_element.specs.declared.clmul.Half.{Half}
 use Rattle.vector_element.specs.declared.clmul.Half.the-variants.{Low, High}
 use Rattle.vector_clmul.specs.declared.Multiplier.{Multiplier}

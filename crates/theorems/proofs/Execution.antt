@@ -20,7 +20,6 @@ use Rattle.vector_word.specs.declared.Kind.the-variants.{VclmulVv, VclmulVx, Vc
 use Rattle.vector_word.specs.declared.Word.{Word}
 use Rattle.vector_word.specs.declared.Word.the-variants.{Known, Unknown}
 use Rattle.vector_registers.specs.Settings.{applies1, applies3}
-use Rattle.vector_word.specs.Kinds.{isVs, hasVs1Group}
 use Rattle.vector_refusal.specs.Refusal.{applies4, applies5, applies6, applies7, applies8, refusalOfKnown, refusalOfWord, refusalOf}
 use Rattle.vector_word.specs.Word.{decode}
 use Rattle.vector_word.proofs.Tests.{or-false, pick-next}

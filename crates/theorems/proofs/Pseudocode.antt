@@ -2,7 +2,7 @@
 -- pseudocode's) and `elements-follow` (each active element or element group is what the pseudocode gives from the file at entry). Below
 -- them, over the width: `low-is-clmul`, `high-is-clmulh`, the halves of a carry-less product are source 002's clmul and clmulh.
 -- Assumes nothing.
-use mathlib.Core.Bool.{Bool, true, false, cond, not, _&&_}
+use mathlib.Core.Bool.{Bool, true, false, cond}
 use mathlib.Core.List.{List}
 use mathlib.Core.Path.{_≡_, refl, sym, ap, ap₂, subst, _∙_}
 use Prim.Native.Nat.{ℕ, zero, suc, _+_, _-_, _*_, _/_, _%_, _^_, _<_, _≤_, zero-le}
@@ -23,7 +23,7 @@ use Rattle.octets.proofs.BigEndian.{beAt-lt}
 use Rattle.octets.proofs.LittleEndian.{read-lt, writeLe-length}
 use Rattle.gf128.proofs.Places.{digit-map}
 use Rattle.vector_registers.specs.declared.settings.Settings.{Settings}
-use Rattle.vector_registers.specs.Settings.{registerBytes, groupLength}
+use Rattle.vector_registers.specs.Settings.{registerBytes}
 use Rattle.vector_word.specs.declared.Fields.{Fields}
 use Rattle.vector_word.specs.declared.Kind.{Kind}
 use Rattle.vector_word.specs.declared.Kind.the-variants.{VclmulVv, VclmulVx, VclmulhVv, VclmulhVx, VghshVv, VghshVs, VgmulVv, VgmulVs}
@@ -49,7 +49,7 @@ use Rattle.vector_ghash.specs.GhashWords.{group, multiplierOf, vvStep, vsStep, 
 use Rattle.vector_execute.specs.Execute.{doneKnown, done, executed}
 use Rattle.vector_execute.proofs.Admitted.{Admitted, admitted-as, performed}
 use Rattle.theorems.specs.Execution.{unitOf, resultOf}
-use Rattle.theorems.specs.Pseudocode.{_!_, _xor_, shl, shr, turns, foreach, brev8Of, brev8, reversed, «get_velem», «set_velem», «X», «zext_or_truncate_to_sew», clmul, clmulh, Suffix, vv, vx, ifVv, VCLMUL, VCLMULH, EGW, multiplied, VGHSH, VGHSHVS, VGMUL, VGMULVV, pseudocode, FollowsPseudocode, widthOf, given, ElementsFollowPseudocode}
+use Rattle.theorems.specs.Pseudocode.{_!_, _xor_, shl, shr, turns, foreach, brev8, reversed, «get_velem», «set_velem», «X», «zext_or_truncate_to_sew», clmul, clmulh, Suffix, vv, vx, ifVv, VCLMUL, VCLMULH, EGW, multiplied, VGHSH, VGHSHVS, VGMUL, VGMULVV, pseudocode, FollowsPseudocode, widthOf, given, ElementsFollowPseudocode}
 use Rattle.theorems.proofs.Elements.{bytes-bits}
 use Rattle.theorems.proofs.Execution.{every-unit}
 use Rattle.theorems.proofs.Places.{sew32, settings, sews, vd-of}

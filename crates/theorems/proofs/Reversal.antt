@@ -2,16 +2,16 @@
 -- xor, is document 01's product of the bits in the other order), `brev8-read` (an element group with the bits of each byte reversed is its
 -- block with all bits in the other order), `write-brev8` (and so it is written).
 -- Assumes nothing.
-use mathlib.Core.Bool.{Bool, true, false, cond}
+use mathlib.Core.Bool.{cond}
 use mathlib.Core.List.{List}
 use mathlib.Core.Path.{_≡_, refl, sym, ap, ap₂, subst, _∙_}
 use Prim.Native.Nat.{ℕ, zero, suc, _+_, _-_, _*_, _/_, _%_, _^_, _<_, _≤_}
-use native.Mathlib.Nat.{add-zero, add-suc, add-assoc, add-mul, zero-mul, one-mul, mul-one, mul-assoc, mul-comm, zero-lt-suc, lt-of-lt-of-le, le-of-eq, le-refl, pow-suc, pow-succ', one-le-pow, mod-lt, mod-one, div-one, div-eq-of-lt, zero-div, mod-eq-of-lt, zero-add}
+use native.Mathlib.Nat.{add-zero, add-suc, add-assoc, add-mul, zero-mul, one-mul, mul-one, mul-assoc, mul-comm, zero-lt-suc, lt-of-lt-of-le, le-of-eq, pow-suc, pow-succ', one-le-pow, mod-lt, mod-one, div-one, div-eq-of-lt, mod-eq-of-lt, zero-add}
 use native.Mathlib.Numerals.{add-one, one-add}
 use native.Mathlib.Omega.{arith}
 use lib.Arith.{digits-lt, digits-div, digits-mod, mod-mul}
 use lib.Bits.{bitXor, xor-block, xor-shr, xor-mod, xor-zero-r}
-use lib.Dec.{eqb, lit<}
+use lib.Dec.{eqb}
 use lib.ListN.{getD, set}
 use lib.Pow.{pow-add, pow-pos, shl-lt, shr-shr, field, mod-mod-pow}
 use lib.Seq.{sets}
@@ -22,7 +22,7 @@ use Rattle.octets.proofs.BigEndian.{beAt-split, beAt-lt, sets-split}
 use Rattle.gf128.proofs.Places.{digit-ind, digit-map, mod2-lt, coeffOf-lt, shiftedOf-lt, reduction-lt}
 use Rattle.gf128.proofs.Xor.{xor-half, xor-odd}
 use Rattle.octets.specs.LittleEndian.{readLe, writeLe}
-use Rattle.theorems.specs.Pseudocode.{_!_, «bit_to_bool», _xor_, shl, turns, foreach, reversed, brev8Of, brev8, ZH, forBit, multiplied}
+use Rattle.theorems.specs.Pseudocode.{_!_, «bit_to_bool», _xor_, shl, turns, reversed, brev8Of, ZH, multiplied}
 use Rattle.theorems.proofs.Elements.{bytes-bits}
 
 -- ---- loops
