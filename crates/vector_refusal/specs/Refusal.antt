@@ -2,6 +2,7 @@
 -- Assumes nothing.
 use Prim.Native.Nat.{ℕ, _%_}
 use mathlib.Core.Bool.{Bool, cond, not, _&&_, _||_}
+use mathlib.Core.List.{List, [], _∷_}
 use lib.Dec.{eqb}
 use Rattle.vector_registers.specs.declared.settings.Settings.{Settings}
 use Rattle.vector_registers.specs.Settings.{misaligned, applies1, applies3}
@@ -38,14 +39,24 @@ applies8 k f = eqb (f .vm) 0 && (eqb (f .vd) 0 || (eqb (f .vs2) 0 || (isVv k && 
 
 -- ---- the smallest that applies, or 0
 
+-- the first number that is given, else 0
+abbrev pub firstGiven : List (Bool × ℕ) → ℕ
+firstGiven [] = 0
+firstGiven ((given, number) ∷ rest) = cond given number (firstGiven rest)
+
+-- the numbers of a known word, and when each is given
+abbrev pub numbersOfKnown : Kind → Fields → Settings → List (Bool × ℕ)
+numbersOfKnown k f s =
+    (applies3 s, 3)
+    ∷ (applies4 k s, 4)
+    ∷ (applies5 k s, 5)
+    ∷ (applies6 k f s, 6)
+    ∷ (applies7 k f, 7)
+    ∷ (applies8 k f, 8)
+    ∷ []
+
 unfoldable pub refusalOfKnown : Kind → Fields → Settings → ℕ
-refusalOfKnown k f s =
-    cond (applies3 s) 3
-    (cond (applies4 k s) 4
-    (cond (applies5 k s) 5
-    (cond (applies6 k f s) 6
-    (cond (applies7 k f) 7
-    (cond (applies8 k f) 8 0)))))
+refusalOfKnown k f s = firstGiven (numbersOfKnown k f s)
 
 -- 2: the word is none of the eight
 abbrev pub refusalOfWord : Word → Settings → ℕ

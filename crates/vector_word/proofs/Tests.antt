@@ -3,7 +3,7 @@
 use Prim.Native.Nat.{ℕ, _<_}
 use mathlib.Core.Bool.{Bool, true, false, true≢false, cond, _&&_, _||_}
 use mathlib.Core.Logic.{_⊎_, inl, inr}
-use mathlib.Core.Path.{_≡_, refl}
+use mathlib.Core.Path.{_≡_, refl, sym, ap, _∙_}
 use native.Mathlib.Omega.{arith}
 
 module _ (a b : Bool) where
@@ -25,6 +25,15 @@ module _ {ℓ} {A : Type ℓ} (a : Bool) (x y : A) where
 
   pub pick-next : {r : A} → a ≡ false → r ≡ y → r ≡ cond a x y
   pick-next h e = rw h e
+
+-- ---- a chain of tests: v is what the chain picks, past the tests that fail and at the one that holds
+
+module _ {v : ℕ} (a : Bool) (n rest : ℕ) (chain : v ≡ cond a n rest) where
+  pub past : a ≡ false → v ≡ rest
+  past h = chain ∙ ap (λ (b : Bool). cond b n rest) h
+
+  pub held : a ≡ true → n ≡ v
+  held h = sym (chain ∙ ap (λ (b : Bool). cond b n rest) h)
 
 -- ---- what the value of a definition's test tells
 
