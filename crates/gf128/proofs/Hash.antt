@@ -9,20 +9,13 @@ use native.Mathlib.Nat.{zero-add, add-zero}
 use native.Mathlib.Omega.{arith}
 use lib.ListN.{length, getD, length-append, List·getD-append}
 use lib.Seq.{getD-append-add}
-use Rattle.octets.specs.BigEndian.{beAt}
+use Rattle.octets.proofs.BigEndian.{be-same}
 use Rattle.gf128.specs.Bytes.{blockAt}
 use Rattle.gf128.specs.Hash.{next, over, blocksFrom, blocksOf, lengthBlock, messageOf, ghash}
 
 -- ---- bytes that agree
 
--- n bytes that agree are one number
-pub be-same : (n : ℕ) (s t : List ℕ) (a b : ℕ) → ((k : ℕ) → k < n → getD s (a + k) 0 ≡ getD t (b + k) 0) → beAt s a n ≡ beAt t b n
-unfolding beAt
-be-same zero s t a b e = refl
-be-same (suc n) s t a b e =
-    ap₂ (λ (x y : ℕ). x * 256 + y) (be-same n s t a b (λ k h. e k (omega arith))) (e n (omega arith))
-
--- the same of n blocks
+-- n blocks whose bytes agree are the same
 pub blocks-same : (n : ℕ) (s t : List ℕ) (i j : ℕ) → ((k : ℕ) → k < 16 * n → getD s (16 * i + k) 0 ≡ getD t (16 * j + k) 0)
     → blocksFrom s i n ≡ blocksFrom t j n
 unfolding blocksFrom

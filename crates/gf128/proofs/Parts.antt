@@ -17,7 +17,8 @@ use lib.Seq.{length-take-le, drop-cons, getD-append-seam, ext-getD, getD-set-sam
 use Rattle.gf128.specs.Bytes.{blockAt}
 use Rattle.gf128.specs.Hash.{next, over, blocksFrom, blocksOf}
 use Rattle.gf128.specs.Running.{Part, noBytes, allZero, push, pushed, closed}
-use Rattle.gf128.proofs.Hash.{be-same, blocks-front, over-next}
+use Rattle.octets.proofs.BigEndian.{be-same}
+use Rattle.gf128.proofs.Hash.{blocks-front, over-next}
 
 abbrev pub part : ℕ → List ℕ → Part
 part y b = record { y = y; block = b }

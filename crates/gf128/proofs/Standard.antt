@@ -17,8 +17,8 @@ use Rattle.gf128.specs.Bytes.{blockAt}
 use Rattle.gf128.specs.Field.{coeffOf, timesXOf, shiftedOf, sumOf, productOf, product, reduction}
 use Rattle.gf128.specs.Hash.{next, over, blocksFrom, blocksOf, lengthBlock, messageOf, ghash, limit}
 use Rattle.gf128.specs.Standard.{Blocks, nextBlocks, blocksAfter, algorithm1, len, cutInto, hashed, algorithm2, bitsToPad, padding, lengthField, stringOf, StandardProduct, StandardHash, StandardCall}
-use Rattle.octets.proofs.BigEndian.{length-beBytes, beBytes-split, beBytes-mod, beAt-beBytes}
-use Rattle.gf128.proofs.Hash.{be-same, blocks-same, blocksOf-append}
+use Rattle.octets.proofs.BigEndian.{be-same, length-beBytes, beBytes-split, beBytes-mod, beAt-beBytes}
+use Rattle.gf128.proofs.Hash.{blocks-same, blocksOf-append}
 use Rattle.gf128.proofs.Places.{digit-ind, mod2-lt}
 
 -- ---- algorithm 1

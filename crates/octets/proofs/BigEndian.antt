@@ -59,12 +59,16 @@ beAt-byte s h at i d =
     ∙ ap (λ (x : ℕ). x % 256) (digits-div (beAt s at (suc i)) (beAt-lt s h (at + suc i) d))
     ∙ digits-mod (beAt s at i) (h (at + i))
 
+-- n bytes that agree are one number
+pub be-same : (n : ℕ) (s t : List ℕ) (a b : ℕ) → ((k : ℕ) → k < n → getD s (a + k) 0 ≡ getD t (b + k) 0) → beAt s a n ≡ beAt t b n
+unfolding beAt
+be-same zero s t a b e = refl
+be-same (suc n) s t a b e =
+    ap₂ (λ (x y : ℕ). x * 256 + y) (be-same n s t a b (λ k h. e k (omega arith))) (e n (omega arith))
+
 -- what is read tells the bytes read alone
 pub beAt-same : (g h : List ℕ) (at n : ℕ) → ((p : ℕ) → (at ≤ p) × (p < at + n) → getD g p 0 ≡ getD h p 0) → beAt g at n ≡ beAt h at n
-unfolding beAt
-beAt-same g h at zero e = refl
-beAt-same g h at (suc n) e =
-    ap₂ (λ (x y : ℕ). x * 256 + y) (beAt-same g h at n (λ p w. e p (omega arith, omega arith))) (e (at + n) (omega arith, omega arith))
+beAt-same g h at n e = be-same n g h at at (λ k l. e (at + k) (omega arith, omega arith))
 
 -- ---- the bytes of a number
 

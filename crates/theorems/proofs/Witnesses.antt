@@ -14,11 +14,10 @@ use lib.ListN.{length, getD, set, replicate, length-replicate, getD-replicate, l
 use lib.Seq.{getD-set-same, getD-set-other}
 use Rattle.octets.specs.BigEndian.{beAt}
 use Rattle.octets.specs.Bytes.{AreBytes}
-use Rattle.octets.proofs.BigEndian.{bytes-inside}
+use Rattle.octets.proofs.BigEndian.{be-same, bytes-inside}
 use Rattle.gf128.specs.Bytes.{blockAt}
 use Rattle.gf128.specs.Differ.{DifferOnce}
 use Rattle.gf128.specs.Hash.{blocksFrom, blocksOf}
-use Rattle.gf128.proofs.Hash.{be-same}
 use Rattle.theorems.specs.Witnesses.{AnyNonzeroKey, AnyByteOfA, AnyByteOfC, Witnesses}
 
 -- ---- equal numbers have equal bytes
