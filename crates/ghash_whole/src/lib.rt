@@ -3,8 +3,8 @@ ghost use mathlib.Core.Path.{_≡_};
 ghost use Prim.Native.Nat.{_≤_};
 ghost use lib.ListN.{length};
 ghost use Rattle.ghash_block.specs.Block.{valueOf, keyOf};
+ghost use Rattle.ghash_whole.specs.Answer.{HashAnswer};
 ghost use Rattle.ghash_whole.specs.Path.{Serves, TablesPut};
-ghost use Rattle.gf128.specs.Entries.{hashRefusal, hashBlock};
 ghost use Rattle.gf128.specs.Hash.{limit, next, over, blocksOf, lengthBlock, ghash};
 use ghash_block::answer::Answer;
 use ghash_block::block::Block;
@@ -79,47 +79,32 @@ fn hash_of(path: Path, key: Key, a: &[u8], c: &[u8]) -> Block
     next(path, key, &t, after_c, length_block(a.len(), c.len()))
 }
 
-fn refused(number: u32) -> Answer
-    ensures { λ r. ⌜ (r .number ≡ number) × (valueOf (r .block) ≡ 0) ⌝ }
-{
-    Answer {
-        number,
-        block: Block::ZERO,
-    }
-}
-
 fn ghash_on(path: Path, key: &[u8], a: &[u8], c: &[u8]) -> Answer
-    ensures { λ r. ⌜ (r .number ≡ hashRefusal (now (key .entry)) (now (a .entry)) (now (c .entry)))
-        × (valueOf (r .block) ≡ hashBlock (now (key .entry)) (now (a .entry)) (now (c .entry))) ⌝ }
+    ensures { λ r. ⌜ HashAnswer (now (key .entry)) (now (a .entry)) (now (c .entry)) r ⌝ }
 {
     if key.len() != 16 {
-        return refused(9);
+        return Answer::refused(9);
     }
     if LIMIT < a.len() {
-        return refused(11);
+        return Answer::refused(11);
     }
     if LIMIT < c.len() {
-        return refused(11);
+        return Answer::refused(11);
     }
     let hash = hash_of(path, key_at_start(key), a, c);
-    Answer {
-        number: 0,
-        block: hash,
-    }
+    Answer::done(hash)
 }
 
 // The hash of a whole A and C on the plain path.
 pub fn ghash_plain(key: &[u8], a: &[u8], c: &[u8]) -> Answer
-    ensures { λ r. ⌜ (r .number ≡ hashRefusal (now (key .entry)) (now (a .entry)) (now (c .entry)))
-        × (valueOf (r .block) ≡ hashBlock (now (key .entry)) (now (a .entry)) (now (c .entry))) ⌝ }
+    ensures { λ r. ⌜ HashAnswer (now (key .entry)) (now (a .entry)) (now (c .entry)) r ⌝ }
 {
     ghash_on(Path::Plain, key, a, c)
 }
 
 // The hash of a whole A and C on the fast path.
 pub fn ghash_fast(key: &[u8], a: &[u8], c: &[u8]) -> Answer
-    ensures { λ r. ⌜ (r .number ≡ hashRefusal (now (key .entry)) (now (a .entry)) (now (c .entry)))
-        × (valueOf (r .block) ≡ hashBlock (now (key .entry)) (now (a .entry)) (now (c .entry))) ⌝ }
+    ensures { λ r. ⌜ HashAnswer (now (key .entry)) (now (a .entry)) (now (c .entry)) r ⌝ }
 {
     ghash_on(Path::Fast, key, a, c)
 }

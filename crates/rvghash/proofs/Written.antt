@@ -9,6 +9,7 @@ use borrow.Author.Tests.{eq-eqb, ne-eqb, le-leb}
 use lib.Dec.{eqb}
 use lib.ListN.{length, drop, drop-of-length-le}
 use lib.Seq.{sets, sets-eq}
+use Rattle.ghash_block.specs.Answer.{Answers}
 use Rattle.ghash_block.specs.Block.{valueOf}
 use Rattle.ghash_block.specs.declared.answer.Answer.{Answer}
 use Rattle.gf128.specs.Bytes.{blockBytes, putBlock}
@@ -40,10 +41,10 @@ out-put out n v e = rw (eq-eqb (length out) 16 e, le-leb 16 (length out) (omega 
 
 -- an answer's promise, once its block is put to `out`
 pub answered : (out out′ : List ℕ) (n : ℕ) (a : Answer) (number block : ℕ)
-    → (a .number ≡ number) × (valueOf (a .block) ≡ block)
+    → Answers number block a
     → (n ≡ outNumber out (a .number)) × (out′ ≡ outBytes out (valueOf (a .block)))
     → (n ≡ outNumber out number) × (out′ ≡ outBytes out block)
-answered out out′ n a number block p q = (q .0 ∙ ap (outNumber out) (p .0), q .1 ∙ ap (outBytes out) (p .1))
+answered out out′ n a number block p q = (q .0 ∙ ap (outNumber out) (p .answer), q .1 ∙ ap (outBytes out) (p .block))
 
 -- a finishing call whose block is put to `out`, where b says that `out` is 16 bytes long
 into : (b : Bool) (number : ℕ) (after : State) (s : Running) (f : Finished) (n : ℕ) (t : Running)

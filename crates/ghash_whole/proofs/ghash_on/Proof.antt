@@ -1,5 +1,5 @@
 -- `hash::ghash_on` is the hash of a whole A and C, on either path. Assumes nothing.
-use mathlib.Core.Path.{refl, ap, _∙_}
+use mathlib.Core.Path.{ap, _∙_}
 use lib.ListN.{length}
 use borrow.Author.Tests.{eq-eqb, ne-eqb, le-ltb, lt-ltb}
 use Rattle.gf128.specs.Hash.{limit, ghash}
@@ -42,16 +42,23 @@ key-at-start-requires c κs = search needs
 hash-of-requires : tie.Need-hash-of-requires
 hash-of-requires c κs = search needs
 
+done-requires : tie.Need-done-requires
+done-requires c κs = search needs
+
 returns-4 : tie.Need-returns-4
 returns-4 c =
-    let tested = c .before .before in
+    let tested = c .before .before .before in
     let a = tested .before .before .before .before .before .before .args in
     rw (
       eq-eqb (length (a .key .now)) 16 (tested .before .before .if1 .left),
       le-ltb limit (length (a .a .now)) (tested .before .if2 .left),
       le-ltb limit (length (a .c .now)) (tested .if3 .left),
     )
-    (refl, c .hash-of .ensures ∙ ap (λ (h : ℕ). ghash h (a .a .now) (a .c .now)) (c .before .key-at-start .ensures))
+    (record {
+      answer = c .done .ensures .answer;
+      block = c .done .ensures .block ∙ c .before .hash-of .ensures
+          ∙ ap (λ (h : ℕ). ghash h (a .a .now) (a .c .now)) (c .before .before .key-at-start .ensures);
+    })
 
 pub ghash-on-spec : {M : Type 1} → statement M
 ghash-on-spec =
@@ -65,4 +72,5 @@ ghash-on-spec =
     returns-3
     key-at-start-requires
     hash-of-requires
+    done-requires
     returns-4)

@@ -17,7 +17,7 @@ same-length c = search needs
 returns : tie.Need-returns
 returns c =
     let p = c .before .before .before .before .product-plain-bytes in
-    answered (now (c .before .before .before .before .before .before .before .before .args .out)) _ _ (p .result) _ _ (p .ensures .answer, p .ensures .block) (c .before .before .put-answer .ensures)
+    answered (now (c .before .before .before .before .before .before .before .before .args .out)) _ _ (p .result) _ _ (p .ensures) (c .before .before .put-answer .ensures)
 
 pub rvghash-product-plain-spec : {M : Type 1} → statement M
 rvghash-product-plain-spec =
