@@ -1,28 +1,20 @@
 // NIST's published GCM vectors, as records of H, the GHASH value, the lengths of A and C, A and C (data/gcm.bin).
 ghost use Prim.Native.Nat.{_≤_, _<_};
 ghost use lib.ListN.{length};
-use crate::compare::Way;
-use crate::compare::hash_answer;
 use crate::data_file::read;
+use crate::hashes::Way;
+use crate::hashes::hash_answer;
 use crate::pieces::Mix;
-use crate::tally::report;
+use crate::records::Of;
+use crate::records::Place;
+use crate::records::least;
+use crate::records::records;
+use crate::report::report;
 use ghash_block::block::block_at;
 use octets::read_le;
 
-// The records that agree so far, and where the next one starts.
-struct Place {
-    agreed: u64,
-    at: usize,
-}
-
-fn least(a: usize, b: usize) -> usize
-    ensures { λ r. ⌜ r ≤ b ⌝ }
-{
-    if a < b { a } else { b }
-}
-
 // The record that s starts with. One that is cut short has another hash.
-fn record(agreed: u64, way: Way, s: &[u8]) -> Place
+pub fn record(agreed: u64, way: Way, s: &[u8]) -> Place
     requires { ⌜ 36 ≤ length (now s) ⌝ }
     ensures { λ r. ⌜ (0 < r .at) × (r .at ≤ length (now (s .entry))) ⌝ }
 {
@@ -36,33 +28,25 @@ fn record(agreed: u64, way: Way, s: &[u8]) -> Place
     }
 }
 
-// All records of s.
-fn records(agreed: u64, way: Way, s: &[u8]) -> u64 {
-    let mut n = agreed;
-    let mut at: usize = 0;
-    while 36 <= s.len() - at {
-        let p = record(n, way, &s[at..]);
-        n = p.agreed;
-        at += p.at;
-    }
-    n
-}
-
 fn plain(s: &[u8]) {
-    let n = records(0, Way::Plain, s);
+    let n = records(0, Of::Messages(Way::Plain), s);
     report(b"NIST GCM vectors, whole, plain path", n, 450);
 }
 
 fn fast(s: &[u8]) {
-    let n = records(0, Way::Fast, s);
+    let n = records(0, Of::Messages(Way::Fast), s);
     report(b"NIST GCM vectors, whole, fast path", n, 450);
 }
 
+fn in_pieces(agreed: u64, mix: Mix, size: usize, s: &[u8]) -> u64 {
+    records(agreed, Of::Messages(Way::Pieces(mix, size)), s)
+}
+
 fn pieces(s: &[u8]) {
-    let mut n = records(0, Way::Pieces(Mix::Plain, 1), s);
-    n = records(n, Way::Pieces(Mix::Fast, 7), s);
-    n = records(n, Way::Pieces(Mix::Turns, 16), s);
-    n = records(n, Way::Pieces(Mix::Turns, 23), s);
+    let mut n = in_pieces(0, Mix::Plain, 1, s);
+    n = in_pieces(n, Mix::Fast, 7, s);
+    n = in_pieces(n, Mix::Turns, 16, s);
+    n = in_pieces(n, Mix::Turns, 23, s);
     report(
         b"NIST GCM vectors, in pieces, plain, fast and by turns",
         n,

@@ -1,15 +1,15 @@
 // Both sides of the limit of 1,048,576 bytes, whole and running. data/limits.bin has the hashes: H and GHASH for A alone,
 // C alone, and both, each of 1,048,576 bytes.
-use crate::compare::Way;
-use crate::compare::hash_answer;
 use crate::data_file::read;
-use crate::pattern::Pattern;
-use crate::pattern::fill;
+use crate::hashes::Way;
+use crate::hashes::hash_answer;
 use crate::pieces::Mix;
-use crate::tally::report;
+use crate::report::report;
 use ghash_block::block::Block;
 use ghash_block::block::block_at;
 use ghash_whole::LIMIT;
+use known_compare::pattern::Pattern;
+use known_compare::pattern::fill;
 
 const OF_A: Pattern = Pattern(3, 7, 251);
 

@@ -1,18 +1,19 @@
 // Known answers: marked cases, published vectors and both sides of the limits, run through the library and compared.
 // Each group writes one line with how many cases agree. A line with fewer than were tried fails the gate.
-mod compare;
 mod data_file;
-mod executor;
 mod gcm;
+mod groups;
+mod hashes;
 mod limits;
 mod marked;
-mod pattern;
 mod pieces;
-mod tally;
+mod records;
+mod report;
+mod words;
 
 fn main() {
     marked::run();
-    executor::run();
+    words::run();
     gcm::run();
     limits::run();
 }

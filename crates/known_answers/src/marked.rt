@@ -1,15 +1,19 @@
 // Document 01's marked cases, K1 to K14.
-use crate::compare::Way;
-use crate::compare::answer;
-use crate::compare::hash_answer;
-use crate::executor::element_becomes;
-use crate::tally;
-use crate::tally::count;
+use crate::hashes::Way;
+use crate::hashes::hash_answer;
+use crate::report;
+use crate::words::BEFORE;
 use ghash_block::block::Block;
 use ghash_fast::product_fast_bytes;
 use ghash_inverse::step_back::step_back_bytes;
 use ghash_plain::product_plain_bytes;
+use known_compare::compare::answer;
+use known_compare::compare::same;
+use known_compare::pattern::fill;
+use known_compare::tally::count;
 use libc::STDOUT_FILENO;
+use vector_execute::execute::execute;
+use vector_registers::settings::Settings;
 use vector_word::Kind;
 use vector_word::Word;
 use vector_word::decode;
@@ -22,7 +26,34 @@ const VCLMULH: u32 = 0x3621A0D7;
 fn end_line(k: u64, agreed: u64, tried: u64) {
     io::write_all(STDOUT_FILENO, b"K");
     io::print_decimal(STDOUT_FILENO, k);
-    tally::end_line(agreed, tried);
+    report::end_line(agreed, tried);
+}
+
+// A word on v1, v2 and v3 makes this of element 0 of v1 and changes nothing else, where the two low bytes of v2 are a, and those of v3 b.
+fn element_becomes(word: u32, sew: u32, a: u8, b: u8, element: u64) -> bool {
+    let mut file = [0u8; 512];
+    fill(BEFORE, &mut file);
+    file[32] = a;
+    file[33] = a;
+    file[48] = b;
+    file[49] = b;
+    let high = if sew == 16 {
+        (element / 256 % 256) as u8
+    } else {
+        file[17]
+    };
+    let mut expected = file;
+    expected[16] = (element % 256) as u8;
+    expected[17] = high;
+    let s = Settings {
+        vlen: 128,
+        sew,
+        lmul: 1,
+        vl: 1,
+        vstart: 0,
+    };
+    let e = execute(word, s, 0, &mut file);
+    (e.number == 0) & same(&file, &expected)
 }
 
 // Elements a by b; with SEW 16 both bytes of each.

@@ -1,0 +1,49 @@
+// Bytes and answers compared with what they should be.
+ghost use mathlib.Core.Bool.{true, cond, _&&_};
+ghost use mathlib.Core.Path.{_≡_};
+ghost use Prim.Native.Nat.{_+_, _%_, _^_};
+ghost use lib.Dec.{eqb};
+ghost use Rattle.ghash_block.specs.Block.{valueOf};
+ghost use Rattle.gf128.specs.Bytes.{blockBytes};
+use crate::tally::count;
+use ghash_block::answer::Answer;
+use ghash_block::block::Block;
+use ghash_block::block::put_block;
+
+// Whether both are the same bytes.
+pub fn same(a: &[u8], b: &[u8]) -> bool
+    ensures { λ r. ⌜ (r ≡ true → now (a .entry) ≡ now (b .entry)) × (now (a .entry) ≡ now (b .entry) → r ≡ true) ⌝ }
+{
+    if a.len() != b.len() {
+        return false;
+    }
+    let mut i: usize = 0;
+    while i < a.len() {
+        if a[i] != b[i] {
+            return false;
+        }
+        i += 1;
+    }
+    true
+}
+
+// The 16 bytes of a block.
+pub fn block_bytes(b: Block) -> [u8; 16]
+    ensures { λ r. ⌜ r ≡ blockBytes (valueOf b) ⌝ }
+{
+    let mut s = [0u8; 16];
+    put_block(&mut s, 0, b);
+    s
+}
+
+// Counts the answer if it is this number with this block.
+pub fn answer(agreed: u64, a: Answer, number: u32, block: Block) -> u64
+    ensures { λ r. ⌜ r ≡ cond ((eqb (a .number) number && eqb (a .block .0) (block .0)) && eqb (a .block .1) (block .1))
+        ((agreed + 1) % 2 ^ 64) agreed ⌝ }
+{
+    let b = a.block;
+    count(
+        agreed,
+        (a.number == number) & (b.0 == block.0) & (b.1 == block.1),
+    )
+}

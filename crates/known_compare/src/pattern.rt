@@ -1,0 +1,51 @@
+// Bytes that can be made again.
+ghost use mathlib.Core.Bool.{true};
+ghost use mathlib.Core.Path.{_≡_};
+ghost use Prim.Native.Nat.{ℕ, _<_};
+ghost use lib.ListN.{length, getD};
+ghost use Rattle.known_compare.specs.Pattern.{nextOf, byteAt};
+
+// Byte i is (step i + first) mod modulus: the first, the step and the modulus.
+pub struct Pattern(pub u64, pub u64, pub u64);
+
+impl Pattern {
+    // The byte after b.
+    fn next(self, b: u64) -> u64
+        ensures { λ r. ⌜ r ≡ nextOf self b ⌝ }
+    {
+        if self.2 == 0 {
+            return 0;
+        }
+        std::num::wrapping_add_u64(b, self.1) % self.2
+    }
+}
+
+pub fn fill(p: Pattern, s: &mut [u8])
+    ensures { λ _. ⌜ (length (now (s .exit)) ≡ length (now (s .entry)))
+        × ((i : ℕ) → i < length (now (s .entry)) → getD (now (s .exit)) i 0 ≡ byteAt p i) ⌝ }
+{
+    let mut b = p.0;
+    let mut i: usize = 0;
+    while i < s.len() {
+        s[i] = (b % 256) as u8;
+        b = p.next(b);
+        i += 1;
+    }
+}
+
+// Whether all of s is as `fill` leaves it.
+pub fn is_filled(p: Pattern, s: &[u8]) -> bool
+    ensures { λ r. ⌜ (r ≡ true → (i : ℕ) → i < length (now (s .entry)) → getD (now (s .entry)) i 0 ≡ byteAt p i)
+        × (((i : ℕ) → i < length (now (s .entry)) → getD (now (s .entry)) i 0 ≡ byteAt p i) → r ≡ true) ⌝ }
+{
+    let mut b = p.0;
+    let mut i: usize = 0;
+    while i < s.len() {
+        if s[i] != (b % 256) as u8 {
+            return false;
+        }
+        b = p.next(b);
+        i += 1;
+    }
+    true
+}
