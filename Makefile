@@ -53,8 +53,7 @@ bench: $(lib) ## measures the library beside its peers, and writes docs/BENCHMAR
 
 derive: ## derives the known answers' data again, and compares it with the recorded checksums
 	@host/setup check derive
-	/usr/bin/python3 host/derive/vectors.py
-	/usr/bin/python3 host/derive/limits.py
+	for script in host/derive/*.py; do /usr/bin/python3 $$script || exit 1; done
 	sha256sum --check host/derive/SHA256SUMS
 
 integration: riscv ## measures the libraries, and writes the tables of docs/INTEGRATION.md
