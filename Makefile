@@ -56,10 +56,11 @@ derive: ## derives the known answers' data again, and compares it with the recor
 	for script in host/derive/*.py; do /usr/bin/python3 $$script || exit 1; done
 	sha256sum --check host/derive/SHA256SUMS
 
-integration: riscv ## measures the libraries, and writes the tables of docs/INTEGRATION.md
+integration: riscv ## measures the libraries; writes the tables of docs/INTEGRATION.md and the checksums of docs/AUDIT.md
 	@host/setup check integration
 	host/integration --write $(lib) x86-64
 	for arch in rv64gc rv64imac; do host/integration --write target/riscv64/$$arch/librvghash.a $$arch; done
+	host/tests/audit --write
 
 riscv: $(lib) ## writes the box's libraries, target/riscv64/rv64gc/librvghash.a and target/riscv64/rv64imac/librvghash.a
 	@host/setup check riscv
