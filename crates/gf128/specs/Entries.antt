@@ -26,6 +26,11 @@ hashRefusal key a c =
 abbrev pub hashBlock : List ℕ → List ℕ → List ℕ → ℕ
 hashBlock key a c = cond (eqb (hashRefusal key a c) 0) (ghash (blockAt key 0) a c) 0
 
+-- 9: a key, block or later hash not 16 bytes long, in the step back
+abbrev pub stepBackRefusal : List ℕ → List ℕ → List ℕ → ℕ
+stepBackRefusal key block later =
+    cond (not (eqb (length key) 16) || (not (eqb (length block) 16) || not (eqb (length later) 16))) 9 0
+
 -- ---- a block written to `out`: one not 16 bytes long is 9, and nothing is written
 
 -- the number, where the call would answer n

@@ -15,8 +15,8 @@ ghost use Rattle.gf128.specs.Field.{product, shifted};
 use ghash_block::answer::Answer;
 use ghash_block::block::Block;
 use ghash_block::block::Key;
-use ghash_block::block::block_at;
-use ghash_block::block::key_at_start;
+use ghash_bytes::block_at;
+use ghash_bytes::key_at_start;
 use ghash_plain::times_x;
 
 // The numbers in a key's tables: four tables of sixteen blocks, then the reductions.

@@ -10,8 +10,8 @@ use crate::inverse::inverse_of;
 use ghash_block::answer::Answer;
 use ghash_block::block::Block;
 use ghash_block::block::Key;
-use ghash_block::block::block_at;
-use ghash_block::block::key_at_start;
+use ghash_bytes::block_at;
+use ghash_bytes::key_at_start;
 use ghash_plain::product_plain;
 
 // The earlier hash, or why there is no single one.

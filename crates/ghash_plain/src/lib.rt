@@ -7,8 +7,8 @@ ghost use Rattle.gf128.specs.Field.{coefficient, timesX, product};
 use ghash_block::answer::Answer;
 use ghash_block::block::Block;
 use ghash_block::block::Key;
-use ghash_block::block::block_at;
-use ghash_block::block::key_at_start;
+use ghash_bytes::block_at;
+use ghash_bytes::key_at_start;
 
 // The block times x.
 pub fn times_x(v: Block) -> Block

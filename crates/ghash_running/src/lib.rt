@@ -9,7 +9,7 @@ ghost use Rattle.ghash_running.specs.Answers.{FeedsA, FeedsC, Finishes};
 ghost use Rattle.gf128.specs.Running.{startedC, finishRefusal};
 use ghash_block::block::Block;
 use ghash_block::block::Key;
-use ghash_block::block::key_at_start;
+use ghash_bytes::key_at_start;
 use ghash_fast::TABLES;
 use ghash_state::Part;
 use ghash_state::Running;

@@ -10,7 +10,7 @@ ghost use Rattle.ghash_state.specs.State.{view, stateOf, spareZeros, Fre
 ghost use Rattle.gf128.specs.Running.{allZero, openBytes, malformed, push, pushed, closed};
 use ghash_block::block::Block;
 use ghash_block::block::Key;
-use ghash_block::block::block_at;
+use ghash_bytes::block_at;
 use ghash_fast::TABLES;
 use ghash_whole::LIMIT;
 use ghash_whole::Path;

@@ -9,8 +9,8 @@ ghost use Rattle.gf128.specs.Hash.{limit, next, over, blocksOf, lengthBlock, gh
 use ghash_block::answer::Answer;
 use ghash_block::block::Block;
 use ghash_block::block::Key;
-use ghash_block::block::block_at;
-use ghash_block::block::key_at_start;
+use ghash_bytes::block_at;
+use ghash_bytes::key_at_start;
 use ghash_fast::TABLES;
 use ghash_fast::fill_tables;
 use ghash_fast::product_fast;

@@ -10,8 +10,8 @@ use crate::records::Place;
 use crate::records::least;
 use crate::records::records;
 use crate::report::report;
-use ghash_block::block::block_at;
-use octets::read_le;
+use ghash_bytes::block_at;
+use octets_le::read_le;
 
 // The record that s starts with. One that is cut short has another hash.
 pub fn record(agreed: u64, way: Way, s: &[u8]) -> Place

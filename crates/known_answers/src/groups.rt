@@ -6,7 +6,7 @@ use crate::words::number_at;
 use known_compare::compare::same;
 use known_compare::pattern::Pattern;
 use known_compare::pattern::fill;
-use octets::read_le;
+use octets_le::read_le;
 use vector_registers::group::group;
 use vector_registers::group::group_read;
 use vector_registers::group::group_refusal;

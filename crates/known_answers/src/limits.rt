@@ -6,7 +6,7 @@ use crate::hashes::hash_answer;
 use crate::pieces::Mix;
 use crate::report::report;
 use ghash_block::block::Block;
-use ghash_block::block::block_at;
+use ghash_bytes::block_at;
 use ghash_whole::LIMIT;
 use known_compare::pattern::Pattern;
 use known_compare::pattern::fill;

@@ -14,7 +14,7 @@ use known_compare::compare::same;
 use known_compare::pattern::Pattern;
 use known_compare::pattern::fill;
 use known_compare::tally::count;
-use octets::read_le;
+use octets_le::read_le;
 use vector_execute::execute::execute;
 use vector_registers::settings::Settings;
 

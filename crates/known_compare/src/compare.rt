@@ -8,7 +8,7 @@ ghost use Rattle.gf128.specs.Bytes.{blockBytes};
 use crate::tally::count;
 use ghash_block::answer::Answer;
 use ghash_block::block::Block;
-use ghash_block::block::put_block;
+use ghash_bytes::put_block;
 
 // Whether both are the same bytes.
 pub fn same(a: &[u8], b: &[u8]) -> bool

@@ -3,7 +3,7 @@ ghost use mathlib.Core.Path.{_≡_};
 ghost use Rattle.ghash_block.specs.Block.{valueOf};
 ghost use Rattle.gf128.specs.Entries.{outNumber, outBytes};
 use ghash_block::answer::Answer;
-use ghash_block::block::put_block;
+use ghash_bytes::put_block;
 
 // Writes an answer's block to `out`, and gives its number; an `out` not 16 bytes long is 9, and nothing is written.
 pub fn put_answer(answer: Answer, out: &mut [u8]) -> u32

@@ -8,7 +8,7 @@ use lib.Dec.{T, eqb, ltb, eqb→eq}
 use lib.ListN.{length, getD}
 use Rattle.octets.specs.BigEndian.{beAt, beBytes}
 use Rattle.gf128.specs.Bytes.{putBlock}
-use Rattle.gf128.specs.Degree.{highest, degreeOf, degreeRefusal}
+use Rattle.gf128.specs.Degree.{highest, degreeOf, degreeRefusal, degreeNumber, degreePlace}
 use Rattle.gf128.specs.Field.{coeffOf, product}
 use Rattle.gf128.specs.Hash.{limit}
 use Rattle.gf128.specs.Running.{State, malformed}
@@ -31,7 +31,7 @@ use Rattle.vector_ghash.specs.declared.GhashMultiplier.{GhashMultiplier}
 use Rattle.vector_ghash.specs.declared.GhashMultiplier.the-variants.{YXorX, YAlone}
 use Rattle.vector_ghash.specs.GhashWords.{group, multiplierOf, vvStep, vsStep, ghashVv, ghashVs}
 use Rattle.vector_execute.specs.Execute.{doneKnown, done, executed, vstartAfter}
-use Rattle.theorems.specs.Examples.{Example, call, known, word, question, times, hash, state, feeds, degree, back, execution, running, file, table, Holds, AllHold, ExamplesHold}
+use Rattle.theorems.specs.Examples.{Example, call, known, word, question, times, hash, backward, out, state, feeds, degree, degreeOfBytes, back, execution, running, file, table, Holds, AllHold, ExamplesHold}
 use Rattle.theorems.proofs.Marked.{same, place, numbersOf, goesBack, same-at, is-word, goes-back}
 
 -- ---- a call that computes fast: the executor's definition over the product, which is then the quick one
@@ -81,6 +81,12 @@ timesBy k b = cond (not (eqb k 16) || not (eqb b 16)) 9 0
 abbrev hashBy : ℕ → ℕ → ℕ → ℕ
 hashBy k a c = cond (not (eqb k 16)) 9 (cond (ltb limit a || ltb limit c) 11 0)
 
+abbrev backwardBy : ℕ → ℕ → ℕ → ℕ
+backwardBy k b l = cond (not (eqb k 16) || (not (eqb b 16) || not (eqb l 16))) 9 0
+
+abbrev outBy : ℕ → ℕ → ℕ
+outBy answer n = cond (eqb n 16) answer 9
+
 -- a piece of A, a piece of C, and the finish
 abbrev feedNumbers : State → ℕ → ℕ → List ℕ
 feedNumbers s k n =
@@ -102,9 +108,12 @@ right (word w kind vm vd vs2 vs1) = same (numbersOf (decode w)) (place kind ∷ 
 right (question vlen fileLength lmul register number) = eqb (groupRefusal vlen fileLength lmul register) number
 right (times k b number) = eqb (timesBy k b) number
 right (hash k m n number) = eqb (hashBy k m n) number
+right (backward k b l number) = eqb (backwardBy k b l) number
+right (out n answer number) = eqb (outBy answer n) number
 right (state phase countA countC place byte bad) = eqb (numberOf (malformed (running 0 phase countA countC place byte))) (numberOf bad)
 right (feeds phase countA countC k n a c finish) = same (feedNumbers (running 0 phase countA countC 0 0) k n) (a ∷ c ∷ finish ∷ [])
 right (degree u number at) = same (degreeRefusal u ∷ degreeOf u ∷ []) (number ∷ at ∷ [])
+right (degreeOfBytes block number at) = same (degreeNumber block ∷ degreePlace block ∷ []) (number ∷ at ∷ [])
 right (back h x y1 number block) = goesBack (eqb h 0) (eqb y1 0) h x y1 number block
 right (execution w s scalar before changed vstart) =
     same (executedBy quickProduct w s scalar (file before)) (file (changed ++ before)) && eqb (vstartAfter (length (file before)) w s) vstart
@@ -133,6 +142,8 @@ shows (word w kind vm vd vs2 vs1) t = is-word (decode w) kind vm vd vs2 vs1 t
 shows (question vlen fileLength lmul register number) t = eqb→eq (groupRefusal vlen fileLength lmul register) number t
 shows (times k b number) t = λ key block ek eb. ap₂ timesBy ek eb ∙ eqb→eq (timesBy k b) number t
 shows (hash k m n number) t = λ key a c ek ea ec. (λ i. hashBy (ek i) (ea i) (ec i)) ∙ eqb→eq (hashBy k m n) number t
+shows (backward k b l number) t = λ key block later ek eb el. (λ i. backwardBy (ek i) (eb i) (el i)) ∙ eqb→eq (backwardBy k b l) number t
+shows (out n answer number) t = λ bytes e. ap (outBy answer) e ∙ eqb→eq (outBy answer n) number t
 shows (state phase countA countC place byte bad) t = λ y. same-flag (malformed (running 0 phase countA countC place byte)) bad t
 shows (feeds phase countA countC k n a c finish) t = λ y key piece ek en.
     let e : (i : ℕ) → getD (feedNumbers (running y phase countA countC 0 0) (length key) (length piece)) i 0 ≡ getD (a ∷ c ∷ finish ∷ []) i 0 =
@@ -141,6 +152,9 @@ shows (feeds phase countA countC k n a c finish) t = λ y key piece ek en.
     (e 0, e 1, e 2)
 shows (degree u number at) t =
     let e = same-at (degreeRefusal u ∷ degreeOf u ∷ []) (number ∷ at ∷ []) t in
+    (e 0, e 1)
+shows (degreeOfBytes block number at) t =
+    let e = same-at (degreeNumber block ∷ degreePlace block ∷ []) (number ∷ at ∷ []) t in
     (e 0, e 1)
 shows (back h x y1 number block) t = goes-back h x y1 number block (eqb h 0) (eqb y1 0) refl refl t
 shows (execution w s scalar before changed vstart) t =

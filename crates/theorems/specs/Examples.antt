@@ -8,8 +8,8 @@ use mathlib.Core.List.{List, [], _∷_, _++_}
 use lib.ListN.{length, set, replicate}
 use lib.Seq.{sets}
 use Rattle.gf128.specs.Bytes.{blockBytes}
-use Rattle.gf128.specs.Degree.{degreeOf, degreeRefusal}
-use Rattle.gf128.specs.Entries.{productRefusal, hashRefusal}
+use Rattle.gf128.specs.Degree.{degreeOf, degreeRefusal, degreeNumber, degreePlace}
+use Rattle.gf128.specs.Entries.{productRefusal, hashRefusal, stepBackRefusal, outNumber}
 use Rattle.gf128.specs.Running.{State, noBytes, malformed, feedARefusal, feedCRefusal, finishRefusal}
 use Rattle.gf128.specs.StepBack.{StepsBack}
 use Rattle.vector_registers.specs.declared.settings.Settings.{Settings}
@@ -47,6 +47,10 @@ pub data Example : Type 0 where
   times : (key block number : ℕ) → Example
   -- the lengths of a key, of A and of C, and the number of the whole hash
   hash : (key a c number : ℕ) → Example
+  -- the lengths of a key, of a block and of a later hash, and the step back's number where 12 and 13 do not apply
+  backward : (key block later number : ℕ) → Example
+  -- the length of an `out`, the number that the call would answer, and the one that it answers
+  out : (length answer number : ℕ) → Example
   -- a running hash, and whether it is malformed
   state : (phase countA countC place byte : ℕ) → (bad : Bool) → Example
   -- a running hash with no open byte but zeros, the lengths of a key and of a piece, and the numbers of a piece of A, of a piece of C and of
@@ -54,6 +58,8 @@ pub data Example : Type 0 where
   feeds : (phase countA countC key piece a c finish : ℕ) → Example
   -- a block, and the number and the place that are its degree's
   degree : (u number place : ℕ) → Example
+  -- a block given as bytes, and the number and the place that are its degree's
+  degreeOfBytes : (block : List ℕ) → (number place : ℕ) → Example
   -- the step back from H, X and Y1: the number and the block that it answers
   back : (h x y1 number block : ℕ) → Example
   -- a call on a file, the registers that it changes, and vstart afterwards
@@ -67,6 +73,8 @@ Holds (word w kind vm vd vs2 vs1) = decode w ≡ Known kind (record { vm = vm; v
 Holds (question vlen fileLength lmul register number) = groupRefusal vlen fileLength lmul register ≡ number
 Holds (times k b number) = (key block : List ℕ) → length key ≡ k → length block ≡ b → productRefusal key block ≡ number
 Holds (hash k m n number) = (key a c : List ℕ) → length key ≡ k → length a ≡ m → length c ≡ n → hashRefusal key a c ≡ number
+Holds (backward k b l number) = (key block later : List ℕ) → length key ≡ k → length block ≡ b → length later ≡ l → stepBackRefusal key block later ≡ number
+Holds (out n answer number) = (bytes : List ℕ) → length bytes ≡ n → outNumber bytes answer ≡ number
 Holds (state phase countA countC place byte bad) = (y : ℕ) → malformed (running y phase countA countC place byte) ≡ bad
 Holds (feeds phase countA countC k n a c finish) =
     (y : ℕ) (key piece : List ℕ) → length key ≡ k → length piece ≡ n
@@ -74,6 +82,7 @@ Holds (feeds phase countA countC k n a c finish) =
     × (feedCRefusal key (running y phase countA countC 0 0) piece ≡ c)
     × (finishRefusal key (running y phase countA countC 0 0) ≡ finish)
 Holds (degree u number place) = (degreeRefusal u ≡ number) × (degreeOf u ≡ place)
+Holds (degreeOfBytes block number place) = (degreeNumber block ≡ number) × (degreePlace block ≡ place)
 Holds (back h x y1 number block) = StepsBack h x y1 number block
 Holds (execution w s scalar before changed vstart) =
     (executed w s scalar (file before) ≡ file (changed ++ before)) × (vstartAfter (length (file before)) w s ≡ vstart)
@@ -266,6 +275,24 @@ table =
     ∷ hash 16 0 0 0
     ∷ hash 15 0 0 9
     ∷ hash 17 0 0 9
+    ∷ backward 16 16 16 0
+    ∷ backward 15 16 16 9
+    ∷ backward 17 16 16 9
+    ∷ backward 16 15 16 9
+    ∷ backward 16 17 16 9
+    ∷ backward 16 16 15 9
+    ∷ backward 16 16 17 9
+    -- 9: an `out` not 16 bytes long, whatever the call would answer
+    ∷ out 16 0 0
+    ∷ out 16 11 11
+    ∷ out 15 0 9
+    ∷ out 17 0 9
+    ∷ out 17 11 9
+    -- 9: the degree of bytes that are no block
+    ∷ degreeOfBytes (replicate 15 0x01) 9 0
+    ∷ degreeOfBytes (replicate 16 0x01) 0 127
+    ∷ degreeOfBytes (replicate 17 0x01) 9 0
+    ∷ degreeOfBytes (replicate 16 0x00) 12 0
     -- 11: A or C would pass 1,048,576 bytes; 9 comes before it
     ∷ hash 16 1048576 0 0
     ∷ hash 16 1048577 0 11
@@ -400,5 +427,5 @@ AllHold (e ∷ es) = Holds e × AllHold es
 
 -- the statement: the rows are so many, and all of them hold
 pub record ExamplesHold : Type 0 where
-  pub rows : length table ≡ 249
+  pub rows : length table ≡ 265
   pub all : AllHold table

@@ -5,11 +5,11 @@ use mathlib.Core.Path.{_≡_, sym, ap, ap₂, _∙_}
 use native.Mathlib.Nat.{lt-of-lt-of-le, pow-le-pow-right, zero-lt-suc, add-zero, sub-zero}
 use native.Mathlib.Omega.{arith}
 use borrow.Author.Needs.{needs}
 use Rattle.octets.specs.Bytes.{AreBytes}
 use Rattle.octets.specs.LittleEndian.{readLe}
 use Rattle.octets.proofs.LittleEndian.{read-past, read-more, read-lt}
-use Rattle.octets.proofs.read_le.Statement.{statement}
-use Rattle.octets.proofs.read_le.Tie as tie
+use Rattle.octets_le.proofs.read_le.Statement.{statement}
+use Rattle.octets_le.proofs.read_le.Tie as tie
 
 abbrev Inv-loop : tie.InvT-loop
 Inv-loop s at n v₀ i₀ v i = (i ≤ n) × (v ≡ readLe s (at + i) (n - i))

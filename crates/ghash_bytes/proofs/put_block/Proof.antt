@@ -10,8 +10,8 @@ use lib.Seq.{sets}
 use Rattle.octets.specs.BigEndian.{beBytes}
 use Rattle.octets.proofs.BigEndian.{sets-join}
 use borrow.Author.Needs.{needs}
-use Rattle.ghash_block.proofs.block.put_block.Statement.{statement}
-use Rattle.ghash_block.proofs.block.put_block.Tie as tie
+use Rattle.ghash_bytes.proofs.put_block.Statement.{statement}
+use Rattle.ghash_bytes.proofs.put_block.Tie as tie
 
 returns : tie.Need-returns
 returns c =

@@ -2,8 +2,8 @@
 use mathlib.Core.Path.{sym}
 use lib.Seq.{set-out}
 use borrow.Author.Needs.{needs}
-use Rattle.octets.proofs.put_byte.Statement.{statement}
-use Rattle.octets.proofs.put_byte.Tie as tie
+use Rattle.octets_le.proofs.put_byte.Statement.{statement}
+use Rattle.octets_le.proofs.put_byte.Tie as tie
 
 slice-write-s : tie.Need-slice-write-s
 slice-write-s c = search needs

@@ -8,10 +8,10 @@ use native.Mathlib.Nat.{add-zero, sub-zero}
 use native.Mathlib.Omega.{arith}
 use borrow.Author.Needs.{needs}
 use lib.ListN.{length, set, length-set}
 use Rattle.octets.specs.LittleEndian.{writeLe}
 use Rattle.octets.proofs.LittleEndian.{write-past, write-more}
-use Rattle.octets.proofs.write_le.Statement.{statement}
-use Rattle.octets.proofs.write_le.Tie as tie
+use Rattle.octets_le.proofs.write_le.Statement.{statement}
+use Rattle.octets_le.proofs.write_le.Tie as tie
 
 abbrev Inv-loop : tie.InvT-loop
 Inv-loop s₀ at n v left₀ i₀ s left i =

@@ -1,8 +1,8 @@
 -- `key_at_start` meets its contract: a key is read as a block is. Assumes nothing.
 use mathlib.Core.Path.{_∙_}
 use borrow.Author.Needs.{needs}
-use Rattle.ghash_block.proofs.block.key_at_start.Statement.{statement}
-use Rattle.ghash_block.proofs.block.key_at_start.Tie as tie
+use Rattle.ghash_bytes.proofs.key_at_start.Statement.{statement}
+use Rattle.ghash_bytes.proofs.key_at_start.Tie as tie
 
 block-at-requires : tie.Need-block-at-requires
 block-at-requires c κs = search needs

@@ -4,8 +4,8 @@ use Prim.Native.Nat.{ℕ, _+_, _*_, _^_}
 use denote.Ref.{now}
 use Rattle.octets.proofs.BigEndian.{beAt-split, beAt-past}
 use borrow.Author.Needs.{needs}
-use Rattle.ghash_block.proofs.block.block_at.Statement.{statement}
-use Rattle.ghash_block.proofs.block.block_at.Tie as tie
+use Rattle.ghash_bytes.proofs.block_at.Statement.{statement}
+use Rattle.ghash_bytes.proofs.block_at.Tie as tie
 
 returns : tie.Need-returns
 returns c = sym (beAt-past (now (c .before .before .args .s)) (c .before .before .args .at) 16 (c .if1 .taken))
