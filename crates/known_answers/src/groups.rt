@@ -7,9 +7,9 @@ use known_compare::compare::same;
 use known_compare::pattern::Pattern;
 use known_compare::pattern::fill;
 use octets_le::read_le;
-use vector_registers::group::group;
-use vector_registers::group::group_read;
-use vector_registers::group::group_refusal;
+use vector_group::group;
+use vector_group::group_read;
+use vector_group::group_refusal;
 
 // What is written to the part.
 const WRITTEN: Pattern = Pattern(5, 11, 253);

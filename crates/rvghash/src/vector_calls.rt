@@ -1,13 +1,13 @@
 // The executor and the group question.
 ghost use mathlib.Core.Path.{_≡_};
 ghost use lib.ListN.{length};
-ghost use Rattle.vector_registers.specs.Group.{groupRefusal, partStart, partLength};
+ghost use Rattle.vector_group.specs.Group.{groupRefusal, partStart, partLength};
 ghost use Rattle.vector_refusal.specs.Refusal.{refusalOf};
 ghost use Rattle.vector_execute.specs.Execute.{executed, vstartAfter};
 ghost use Rattle.rvghash.specs.Call.{settingsOf};
 use vector_execute::execute::execute;
-use vector_registers::group::group_refusal;
-use vector_registers::group::part_of;
+use vector_group::group_refusal;
+use vector_group::part_of;
 use vector_registers::settings::Settings;
 
 #[no_mangle]

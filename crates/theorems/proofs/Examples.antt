@@ -15,7 +15,7 @@ use Rattle.gf128.specs.Running.{State, malformed}
 use Rattle.gf128.proofs.Computed.{quickXOf, quickSteps, quickProduct, quick-product}
 use Rattle.gf128.proofs.Tests.{and-left, and-right}
 use Rattle.vector_registers.specs.declared.settings.Settings.{Settings}
-use Rattle.vector_registers.specs.Group.{groupRefusal}
+use Rattle.vector_group.specs.Group.{groupRefusal}
 use Rattle.vector_word.specs.declared.Fields.{Fields}
 use Rattle.vector_word.specs.declared.Kind.the-variants.{VclmulVv, VclmulVx, VclmulhVv, VclmulhVx, VghshVv, VghshVs, VgmulVv, VgmulVs}
 use Rattle.vector_word.specs.declared.Word.{Word}

@@ -18,7 +18,7 @@ use Rattle.vector_word.specs.declared.Word.the-variants.{Known}
 use Rattle.vector_registers.specs.Settings.{applies1, applies3, registerBytes, fileBytes, groupRegisters, groupLength, timesLmul, vlenAllowed, sewAllowed, lmulAllowed, vlmax, misaligned}
 use Rattle.vector_word.specs.Word.{among, kinds, decode, isRow, row, fieldsOf}
 use Rattle.vector_registers.proofs.Allowed.{each-vlen, each-sew, each-group, times-lmul}
-use Rattle.vector_registers.proofs.Groups.{last-register, registers-within}
+use Rattle.vector_group.proofs.Groups.{last-register, registers-within}
 use Rattle.vector_word.proofs.Tests.{or-false}
 use Rattle.vector_element.proofs.Sew.{sew-facts}
 use Rattle.theorems.specs.Execution.{Within}

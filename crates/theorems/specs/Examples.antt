@@ -13,7 +13,7 @@ use Rattle.gf128.specs.Entries.{productRefusal, hashRefusal, stepBackRefusal, o
 use Rattle.gf128.specs.Running.{State, noBytes, malformed, feedARefusal, feedCRefusal, finishRefusal}
 use Rattle.gf128.specs.StepBack.{StepsBack}
 use Rattle.vector_registers.specs.declared.settings.Settings.{Settings}
-use Rattle.vector_registers.specs.Group.{groupRefusal}
+use Rattle.vector_group.specs.Group.{groupRefusal}
 use Rattle.vector_word.specs.declared.Kind.{Kind}
 use Rattle.vector_word.specs.declared.Kind.the-variants.{VclmulVv, VclmulVx, VclmulhVv, VclmulhVx, VghshVv, VghshVs, VgmulVv, VgmulVs}
 use Rattle.vector_word.specs.declared.Word.the-variants.{Known}

@@ -1,3 +1,2 @@
-// The settings of a call, and register groups.
-pub mod group;
+// The settings of a call.
 pub mod settings;

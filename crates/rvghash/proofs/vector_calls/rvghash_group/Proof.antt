@@ -2,7 +2,7 @@
 -- Assumes nothing.
 use mathlib.Core.Path.{ap}
 use borrow.Author.Needs.{needs}
-use Rattle.vector_registers.specs.declared.group.Part.{Part}
+use Rattle.vector_group.specs.declared.Part.{Part}
 use Rattle.rvghash.proofs.vector_calls.rvghash_group.Statement.{statement}
 use Rattle.rvghash.proofs.vector_calls.rvghash_group.Tie as tie
 

@@ -5,8 +5,8 @@ use mathlib.Core.Bool.{cond, not, _||_}
 use mathlib.Core.List.{List}
 use lib.Dec.{eqb, ltb}
 use lib.ListN.{length, take, drop}
-use Rattle.vector_registers.specs.declared.group.Part.{Part}
+use Rattle.vector_group.specs.declared.Part.{Part}
 use Rattle.vector_registers.specs.Settings.{applies1, lmulAllowed, misaligned, registerBytes, groupLength}
 
 -- the separate question: 1 as in the table, 3 if LMUL isn't allowed, 6 if the register is over 31 or no multiple of LMUL, else 0
 unfoldable pub groupRefusal : ℕ → ℕ → ℕ → ℕ → ℕ

@@ -4,10 +4,10 @@ use mathlib.Core.Path.{refl, ap, sym, _∙_}
 use mathlib.Core.Bool.{not}
 use borrow.Author.Tests.{lt-ltb, le-ltb}
 use borrow.Author.Needs.{needs}
-use Rattle.vector_registers.specs.Group.{groupRefusal}
+use Rattle.vector_group.specs.Group.{groupRefusal}
 use Rattle.vector_word.proofs.Tests.{or-here, or-next, pick-here, pick-next}
-use Rattle.vector_registers.proofs.group.group_refusal.Statement.{statement}
-use Rattle.vector_registers.proofs.group.group_refusal.Tie as tie
+use Rattle.vector_group.proofs.group_refusal.Statement.{statement}
+use Rattle.vector_group.proofs.group_refusal.Tie as tie
 
 applies-1-requires : tie.Need-applies-1-requires
 applies-1-requires c κs = search needs

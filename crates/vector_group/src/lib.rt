@@ -2,12 +2,12 @@
 ghost use Prim.Native.Nat.{_+_};
 ghost use mathlib.Core.Path.{_≡_};
 ghost use lib.ListN.{length};
-ghost use Rattle.vector_registers.specs.Group.{groupRefusal, partStart, partOf, groupOf};
-use crate::settings::applies_1;
-use crate::settings::group_length;
-use crate::settings::lmul_allowed;
-use crate::settings::misaligned;
-use crate::settings::register_bytes;
+ghost use Rattle.vector_group.specs.Group.{groupRefusal, partStart, partOf, groupOf};
+use vector_registers::settings::applies_1;
+use vector_registers::settings::group_length;
+use vector_registers::settings::lmul_allowed;
+use vector_registers::settings::misaligned;
+use vector_registers::settings::register_bytes;
 
 // The separate question: 1 as in the table, 3 if LMUL isn't allowed, 6 if the register is over 31 or no multiple of LMUL, else 0.
 pub fn group_refusal(vlen: u32, file_len: usize, lmul: u32, register: u32) -> u32

@@ -4,10 +4,10 @@ use mathlib.Core.Path.{ap, sym, _∙_}
 use native.Mathlib.Omega.{arith}
 use borrow.Author.Needs.{needs}
 use Prim.Native.Nat.{ℕ, _*_}
 use Rattle.vector_registers.proofs.Product.{below}
-use Rattle.vector_registers.proofs.Groups.{refused-part, granted-part}
-use Rattle.vector_registers.proofs.group.part_of.Statement.{statement}
-use Rattle.vector_registers.proofs.group.part_of.Tie as tie
+use Rattle.vector_group.proofs.Groups.{refused-part, granted-part}
+use Rattle.vector_group.proofs.part_of.Statement.{statement}
+use Rattle.vector_group.proofs.part_of.Tie as tie
 
 group-refusal-requires : tie.Need-group-refusal-requires
 group-refusal-requires c κs = search needs

@@ -11,10 +11,10 @@ use native.Mathlib.Omega.{arith}
 use borrow.Author.Tests.{eqb-true, ltb-false, not-false, eq-eqb, ne-eqb}
 use lib.Dec.{eqb, ltb}
 use lib.ListN.{length, take, drop, length-take, length-drop}
-use Rattle.vector_registers.specs.declared.group.Part.{Part}
+use Rattle.vector_group.specs.declared.Part.{Part}
 use Rattle.vector_registers.specs.Settings.{applies1, vlenAllowed, lmulAllowed, misaligned, registerBytes, fileBytes, groupRegisters, groupLength}
-use Rattle.vector_registers.specs.Group.{groupRefusal, partStart, partLength, partOf, groupOf}
+use Rattle.vector_group.specs.Group.{groupRefusal, partStart, partLength, partOf, groupOf}
 use Rattle.vector_registers.proofs.Allowed.{each-vlen, each-group}
 use Rattle.vector_word.proofs.Tests.{pick-here, pick-next, or-false, passed}
 
 -- an aligned group ends at the last register or before
