@@ -13,8 +13,8 @@ use known_compare::pattern::fill;
 use known_compare::tally::count;
 use libc::STDOUT_FILENO;
 use vector_execute::execute::execute;
+use vector_kind::Kind;
 use vector_registers::settings::Settings;
-use vector_word::Kind;
 use vector_word::Word;
 use vector_word::decode;
 

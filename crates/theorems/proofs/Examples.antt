@@ -17,7 +17,7 @@ use Rattle.gf128.proofs.Tests.{and-left, and-right}
 use Rattle.vector_registers.specs.declared.settings.Settings.{Settings}
 use Rattle.vector_group.specs.Group.{groupRefusal}
 use Rattle.vector_word.specs.declared.Fields.{Fields}
-use Rattle.vector_word.specs.declared.Kind.the-variants.{VclmulVv, VclmulVx, VclmulhVv, VclmulhVx, VghshVv, VghshVs, VgmulVv, VgmulVs}
+use Rattle.vector_kind.specs.declared.Kind.the-variants.{VclmulVv, VclmulVx, VclmulhVv, VclmulhVx, VghshVv, VghshVs, VgmulVv, VgmulVs}
 use Rattle.vector_word.specs.declared.Word.{Word}
 use Rattle.vector_word.specs.declared.Word.the-variants.{Known, Unknown}
 use Rattle.vector_word.specs.Word.{decode}

@@ -16,8 +16,8 @@ use Rattle.gf128.specs.StepBack.{IsBlock, StepsBack}
 use Rattle.gf128.proofs.Computed.{quickXOf, quickSteps, quickProduct, quickOver, quickGhash, quick-product, quick-ghash}
 use Rattle.gf128.proofs.Tests.{and-left, and-right}
 use Rattle.gf128.proofs.StepBack.{steps-to, steps-none, steps-many}
-use Rattle.vector_word.specs.declared.Kind.{Kind}
-use Rattle.vector_word.specs.declared.Kind.the-variants.{VclmulVv, VclmulVx, VclmulhVv, VclmulhVx, VghshVv, VghshVs, VgmulVv, VgmulVs}
+use Rattle.vector_kind.specs.declared.Kind.{Kind}
+use Rattle.vector_kind.specs.declared.Kind.the-variants.{VclmulVv, VclmulVx, VclmulhVv, VclmulhVx, VghshVv, VghshVs, VgmulVv, VgmulVs}
 use Rattle.vector_word.specs.declared.Word.{Word}
 use Rattle.vector_word.specs.declared.Word.the-variants.{Known, Unknown}
 use Rattle.vector_word.specs.Word.{decode, kinds}

@@ -11,9 +11,9 @@ use lib.Dec.{eqb}
 use Rattle.vector_registers.specs.declared.settings.Settings.{Settings}
 use Rattle.vector_registers.specs.Settings.{registerBytes, misaligned}
 use Rattle.vector_word.specs.declared.Fields.{Fields}
-use Rattle.vector_word.specs.declared.Kind.{Kind}
+use Rattle.vector_kind.specs.declared.Kind.{Kind}
 use Rattle.vector_word.proofs.Tests.{or-false}
-use Rattle.vector_word.specs.Kinds.{isGhash, isVs, hasVs1Group}
+use Rattle.vector_kind.specs.Kinds.{isGhash, isVs, hasVs1Group}
 use Rattle.vector_element.specs.Element.{elementAt, blockPlace}
 use Rattle.vector_element.proofs.Sew.{SewFacts, sew-facts}
 use Rattle.vector_execute.proofs.Admitted.{Admitted, admitted-as, sew-allowed}

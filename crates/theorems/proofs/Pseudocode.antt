@@ -25,8 +25,8 @@ use Rattle.gf128.proofs.Places.{digit-map}
 use Rattle.vector_registers.specs.declared.settings.Settings.{Settings}
 use Rattle.vector_registers.specs.Settings.{registerBytes}
 use Rattle.vector_word.specs.declared.Fields.{Fields}
-use Rattle.vector_word.specs.declared.Kind.{Kind}
-use Rattle.vector_word.specs.declared.Kind.the-variants.{VclmulVv, VclmulVx, VclmulhVv, VclmulhVx, VghshVv, VghshVs, VgmulVv, VgmulVs}
+use Rattle.vector_kind.specs.declared.Kind.{Kind}
+use Rattle.vector_kind.specs.declared.Kind.the-variants.{VclmulVv, VclmulVx, VclmulhVv, VclmulhVx, VghshVv, VghshVs, VgmulVv, VgmulVs}
 use Rattle.vector_word.specs.declared.Word.{Word}
 use Rattle.vector_word.specs.declared.Word.the-variants.{Known}
 use Rattle.vector_word.specs.Word.{decode}

@@ -13,7 +13,7 @@ use borrow.Author.Tests.{eqb-true, ltb-false, not-false}
 use lib.Dec.{eqb, ltb}
 use Rattle.vector_registers.specs.declared.settings.Settings.{Settings}
 use Rattle.vector_word.specs.declared.Fields.{Fields}
-use Rattle.vector_word.specs.declared.Kind.{Kind}
+use Rattle.vector_kind.specs.declared.Kind.{Kind}
 use Rattle.vector_word.specs.declared.Word.the-variants.{Known}
 use Rattle.vector_registers.specs.Settings.{applies1, applies3, registerBytes, fileBytes, groupRegisters, groupLength, timesLmul, vlenAllowed, sewAllowed, lmulAllowed, vlmax, misaligned}
 use Rattle.vector_word.specs.Word.{among, kinds, decode, isRow, row, fieldsOf}

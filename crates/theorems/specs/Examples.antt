@@ -14,8 +14,8 @@ use Rattle.gf128.specs.Running.{State, noBytes, malformed, feedARefusal, feedCR
 use Rattle.gf128.specs.StepBack.{StepsBack}
 use Rattle.vector_registers.specs.declared.settings.Settings.{Settings}
 use Rattle.vector_group.specs.Group.{groupRefusal}
-use Rattle.vector_word.specs.declared.Kind.{Kind}
-use Rattle.vector_word.specs.declared.Kind.the-variants.{VclmulVv, VclmulVx, VclmulhVv, VclmulhVx, VghshVv, VghshVs, VgmulVv, VgmulVs}
+use Rattle.vector_kind.specs.declared.Kind.{Kind}
+use Rattle.vector_kind.specs.declared.Kind.the-variants.{VclmulVv, VclmulVx, VclmulhVv, VclmulhVx, VghshVv, VghshVs, VgmulVv, VgmulVs}
 use Rattle.vector_word.specs.declared.Word.the-variants.{Known}
 use Rattle.vector_word.specs.Word.{decode}
 use Rattle.vector_refusal.specs.Refusal.{refusalOf, refusalOfKnown}

@@ -9,8 +9,8 @@ use Rattle.vector_element.specs.declared.clmul.Half.the-variants.{Low, High}
 use Rattle.vector_clmul.specs.declared.Multiplier.the-variants.{Vs1, Scalar}
 use Rattle.vector_ghash.specs.declared.GhashMultiplier.the-variants.{YXorX, YAlone}
 use Rattle.vector_registers.specs.declared.settings.Settings.{Settings}
-use Rattle.vector_word.specs.declared.Kind.{Kind}
-use Rattle.vector_word.specs.declared.Kind.the-variants.{VclmulVv, VclmulVx, VclmulhVv, VclmulhVx, VghshVv, VghshVs, VgmulVv, VgmulVs}
+use Rattle.vector_kind.specs.declared.Kind.{Kind}
+use Rattle.vector_kind.specs.declared.Kind.the-variants.{VclmulVv, VclmulVx, VclmulhVv, VclmulhVx, VghshVv, VghshVs, VgmulVv, VgmulVs}
 use Rattle.vector_word.specs.declared.Fields.{Fields}
 use Rattle.vector_word.specs.declared.Word.{Word}
 use Rattle.vector_word.specs.declared.Word.the-variants.{Known, Unknown}

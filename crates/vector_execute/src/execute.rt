@@ -12,10 +12,10 @@ use vector_element::clmul::Half;
 use vector_ghash::GhashMultiplier;
 use vector_ghash::ghash_vs;
 use vector_ghash::ghash_vv;
+use vector_kind::Kind;
 use vector_refusal::refusal_of;
 use vector_registers::settings::Settings;
 use vector_word::Fields;
-use vector_word::Kind;
 use vector_word::Word;
 use vector_word::decode;
 

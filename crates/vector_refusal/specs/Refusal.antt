@@ -6,11 +6,11 @@ use mathlib.Core.List.{List, [], _∷_}
 use lib.Dec.{eqb}
 use Rattle.vector_registers.specs.declared.settings.Settings.{Settings}
 use Rattle.vector_registers.specs.Settings.{misaligned, applies1, applies3}
-use Rattle.vector_word.specs.declared.Kind.{Kind}
+use Rattle.vector_kind.specs.declared.Kind.{Kind}
 use Rattle.vector_word.specs.declared.Fields.{Fields}
 use Rattle.vector_word.specs.declared.Word.{Word}
 use Rattle.vector_word.specs.declared.Word.the-variants.{Known, Unknown}
-use Rattle.vector_word.specs.Kinds.{isGhash, isVv, isVs, hasVs1Group}
+use Rattle.vector_kind.specs.Kinds.{isGhash, isVv, isVs, hasVs1Group}
 use Rattle.vector_word.specs.Word.{decode}
 
 -- ---- the other numbers, in the table's words

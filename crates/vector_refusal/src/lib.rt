@@ -1,21 +1,21 @@
 // The refusal of a word under its settings: document 01's numbers 0 to 8.
 ghost use mathlib.Core.Bool.{not, _&&_};
 ghost use mathlib.Core.Path.{_≡_};
-ghost use Rattle.vector_word.specs.Kinds.{isVs};
+ghost use Rattle.vector_kind.specs.Kinds.{isVs};
 ghost use Rattle.vector_registers.specs.Settings.{misaligned};
 ghost use Rattle.vector_refusal.specs.Refusal.{applies4, applies5, applies6, applies7, applies8, refusalOfKnown, refusalOfWord, refusalOfDecoded, refusalOf};
+use vector_kind::Kind;
+use vector_kind::has_vs1_group;
+use vector_kind::is_ghash;
+use vector_kind::is_vs;
+use vector_kind::is_vv;
 use vector_registers::settings::Settings;
 use vector_registers::settings::applies_1;
 use vector_registers::settings::applies_3;
 use vector_registers::settings::misaligned;
 use vector_word::Fields;
-use vector_word::Kind;
 use vector_word::Word;
 use vector_word::decode;
-use vector_word::kinds::has_vs1_group;
-use vector_word::kinds::is_ghash;
-use vector_word::kinds::is_vs;
-use vector_word::kinds::is_vv;
 
 // ---- each number, in the table's words
 

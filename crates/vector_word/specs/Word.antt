@@ -4,8 +4,8 @@ use Prim.Native.Nat.{ℕ, _/_, _%_, _^_}
 use mathlib.Core.Bool.{Bool, true, false, cond, _&&_}
 use mathlib.Core.List.{List, [], _∷_}
 use lib.Dec.{eqb}
-use Rattle.vector_word.specs.declared.Kind.{Kind}
-use Rattle.vector_word.specs.declared.Kind.the-variants.{VclmulVv, VclmulVx, VclmulhVv, VclmulhVx, VghshVv, VghshVs, VgmulVv, VgmulVs}
+use Rattle.vector_kind.specs.declared.Kind.{Kind}
+use Rattle.vector_kind.specs.declared.Kind.the-variants.{VclmulVv, VclmulVx, VclmulhVv, VclmulhVx, VghshVv, VghshVs, VgmulVv, VgmulVs}
 use Rattle.vector_word.specs.declared.Fields.{Fields}
 use Rattle.vector_word.specs.declared.Given.{Given}
 use Rattle.vector_word.specs.declared.Given.the-variants.{Any, Is}

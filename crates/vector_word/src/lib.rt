@@ -1,20 +1,7 @@
 // The eight words and their fields: document 01, "The eight words".
-pub mod kinds;
-
 ghost use mathlib.Core.Path.{_≡_};
 ghost use Rattle.vector_word.specs.Word.{rowWith, row, allows, isRow, fieldsOf, asKind, decode};
-
-// The eight words of document 01's table.
-pub enum Kind {
-    VclmulVv,
-    VclmulVx,
-    VclmulhVv,
-    VclmulhVx,
-    VghshVv,
-    VghshVs,
-    VgmulVv,
-    VgmulVs,
-}
+use vector_kind::Kind;
 
 // The fields that a word of any kind has; vs1 is rs1 in a .vx word.
 pub struct Fields {

@@ -1,7 +1,18 @@
-// What tells the eight kinds of word apart beside their encoding: one table, and the questions that are asked of it.
+// The eight kinds of word, and what tells them apart beside their encoding: one table, and the questions that are asked of it.
 ghost use mathlib.Core.Path.{_≡_};
-ghost use Rattle.vector_word.specs.Kinds.{traitsWith, traits, isGhash, isVv, isVs, hasVs1Group};
-use crate::Kind;
+ghost use Rattle.vector_kind.specs.Kinds.{traitsWith, traits, isGhash, isVv, isVs, hasVs1Group};
+
+// The eight words of document 01's table.
+pub enum Kind {
+    VclmulVv,
+    VclmulVx,
+    VclmulhVv,
+    VclmulhVx,
+    VghshVv,
+    VghshVs,
+    VgmulVv,
+    VgmulVs,
+}
 
 // What a word does: a carry-less product of elements, or a GHASH product of groups of 128 bits.
 pub enum Operation {

@@ -1,13 +1,13 @@
 -- What tells the eight kinds of word apart beside their encoding, as one table with a row a kind. Refusals and execution ask it.
 -- Assumes nothing.
 use mathlib.Core.Bool.{Bool, true, false}
-use Rattle.vector_word.specs.declared.Kind.{Kind}
-use Rattle.vector_word.specs.declared.Kind.the-variants.{VclmulVv, VclmulVx, VclmulhVv, VclmulhVx, VghshVv, VghshVs, VgmulVv, VgmulVs}
-use Rattle.vector_word.specs.declared.kinds.Operation.{Operation}
-use Rattle.vector_word.specs.declared.kinds.Operation.the-variants.{Carryless, Ghash}
-use Rattle.vector_word.specs.declared.kinds.Form.{Form}
-use Rattle.vector_word.specs.declared.kinds.Form.the-variants.{Vv, Vx, Vs}
-use Rattle.vector_word.specs.declared.kinds.Traits.{Traits}
+use Rattle.vector_kind.specs.declared.Kind.{Kind}
+use Rattle.vector_kind.specs.declared.Kind.the-variants.{VclmulVv, VclmulVx, VclmulhVv, VclmulhVx, VghshVv, VghshVs, VgmulVv, VgmulVs}
+use Rattle.vector_kind.specs.declared.Operation.{Operation}
+use Rattle.vector_kind.specs.declared.Operation.the-variants.{Carryless, Ghash}
+use Rattle.vector_kind.specs.declared.Form.{Form}
+use Rattle.vector_kind.specs.declared.Form.the-variants.{Vv, Vx, Vs}
+use Rattle.vector_kind.specs.declared.Traits.{Traits}
 
 -- what a row of the table says, column by column
 abbrev pub traitsWith : Operation → Form → Bool → Traits

@@ -2,9 +2,9 @@
 -- Assumes nothing.
 use mathlib.Core.Path.{ap, sym, _∙_}
 use borrow.Author.Needs.{needs}
-use Rattle.vector_word.specs.Kinds.{traits}
-use Rattle.vector_word.proofs.kinds.traits_of.Statement.{statement}
-use Rattle.vector_word.proofs.kinds.traits_of.Tie as tie
+use Rattle.vector_kind.specs.Kinds.{traits}
+use Rattle.vector_kind.proofs.traits_of.Statement.{statement}
+use Rattle.vector_kind.proofs.traits_of.Tie as tie
 
 enum-told : tie.Need-enum-told
 enum-told c = search needs
