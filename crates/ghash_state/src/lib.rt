@@ -11,7 +11,7 @@ ghost use Rattle.gf128.specs.Running.{allZero, openBytes, malformed, push, push
 use ghash_block::block::Block;
 use ghash_block::block::Key;
 use ghash_bytes::block_at;
-use ghash_fast::TABLES;
+use ghash_tables::TABLES;
 use ghash_whole::LIMIT;
 use ghash_whole::Path;
 use ghash_whole::next;

@@ -5,7 +5,7 @@ use mathlib.Core.List.{List}
 use Prim.Native.Nat.{ℕ}
 use Rattle.ghash_block.specs.Block.{keyOf}
 use Rattle.ghash_block.specs.declared.block.Key.{Key}
-use Rattle.ghash_fast.specs.Table.{TableOf}
+use Rattle.ghash_tables.specs.Table.{TableOf}
 use Rattle.ghash_whole.specs.declared.Path.{Path}
 use Rattle.ghash_whole.specs.declared.Path.the-variants.{Plain, Fast}
 use Rattle.ghash_whole.specs.Path.{Serves, TablesPut}

@@ -7,7 +7,7 @@ use Rattle.ghash_block.specs.declared.block.Key.{Key}
 use Rattle.ghash_whole.specs.declared.Path.{Path}
 use Rattle.ghash_whole.specs.declared.Path.the-variants.{Plain, Fast}
 use Rattle.ghash_block.specs.Block.{keyOf}
-use Rattle.ghash_fast.specs.Table.{TableOf}
+use Rattle.ghash_tables.specs.Table.{TableOf}
 
 abbrev pub tablesFor : Path → ℕ → List ℕ → Type 0
 tablesFor Plain h t = Unit {0}

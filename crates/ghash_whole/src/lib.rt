@@ -11,10 +11,10 @@ use ghash_block::block::Block;
 use ghash_block::block::Key;
 use ghash_bytes::block_at;
 use ghash_bytes::key_at_start;
-use ghash_fast::TABLES;
-use ghash_fast::fill_tables;
 use ghash_fast::product_fast;
 use ghash_plain::product_plain;
+use ghash_tables::TABLES;
+use ghash_tables::fill_tables;
 
 // Which product a call uses: the plain path is bit by bit, the fast path four coefficients at a time.
 pub enum Path {

@@ -3,15 +3,15 @@
 ghost use mathlib.Core.Path.{_≡_};
 ghost use Prim.Native.Nat.{ℕ};
 ghost use Rattle.ghash_block.specs.Block.{valueOf, keyOf};
-ghost use Rattle.ghash_fast.specs.Table.{TableOf};
+ghost use Rattle.ghash_tables.specs.Table.{TableOf};
 ghost use Rattle.vector_ghash.specs.GhashWords.{group, multiplierOf, vvStep, vsStep, ghashVv, ghashVs};
 use ghash_block::block::Block;
 use ghash_block::block::Key;
 use ghash_bytes::block_at;
 use ghash_bytes::put_block;
-use ghash_fast::TABLES;
-use ghash_fast::fill_tables;
 use ghash_fast::product_fast;
+use ghash_tables::TABLES;
+use ghash_tables::fill_tables;
 use vector_element::element::block_place;
 use vector_registers::settings::Settings;
 use vector_word::Fields;

@@ -10,8 +10,8 @@ use borrow.Author.Needs.{needs}
 use Rattle.gf128.specs.Field.{reduction, shiftedOf, shifted, product}
 use Rattle.gf128.proofs.Chain.{chain, chain-start, chain-step, chain-end}
 use Rattle.ghash_block.specs.Block.{valueOf}
-use Rattle.ghash_fast.specs.Table.{TableOf, nibble, entriesOf}
-use Rattle.ghash_fast.proofs.Multiples.{four-leave}
+use Rattle.ghash_tables.specs.Table.{TableOf, nibble, entriesOf}
+use Rattle.ghash_tables.proofs.Multiples.{four-leave}
 use Rattle.ghash_fast.proofs.product_fast.Statement.{statement}
 use Rattle.ghash_fast.proofs.product_fast.Tie as tie
 

@@ -5,7 +5,7 @@ use mathlib.Core.Path.{_≡_, refl, subst, _∙_}
 use native.Mathlib.Omega.{arith}
 use borrow.Author.Needs.{needs}
 use lib.ListN.{length}
-use Rattle.ghash_fast.specs.Table.{TableOf}
+use Rattle.ghash_tables.specs.Table.{TableOf}
 use Rattle.vector_element.specs.Steps.{steps}
 use Rattle.vector_ghash.specs.GhashWords.{group, ghashVs, vsStep}
 use Rattle.vector_element.proofs.Steps.{turn, none-left}

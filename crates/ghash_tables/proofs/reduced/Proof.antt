@@ -9,10 +9,10 @@ use lib.Pow.{mod-mod-pow}
 use denote.Ref.{now}
 use borrow.Author.Needs.{needs}
 use Rattle.gf128.specs.Field.{reduction, shiftedOf, shifted}
-use Rattle.ghash_fast.specs.Table.{ReductionsIn}
-use Rattle.ghash_fast.proofs.Multiples.{four-leave, overflow-ends, overflow-more}
-use Rattle.ghash_fast.proofs.reduced.Statement.{statement}
-use Rattle.ghash_fast.proofs.reduced.Tie as tie
+use Rattle.ghash_tables.specs.Table.{ReductionsIn}
+use Rattle.ghash_tables.proofs.Multiples.{four-leave, overflow-ends, overflow-more}
+use Rattle.ghash_tables.proofs.reduced.Statement.{statement}
+use Rattle.ghash_tables.proofs.reduced.Tie as tie
 
 -- what ends in 32 zeros ends in l of them
 ends-sooner : (e k l : ℕ) → k + l ≡ 32 → e % 2 ^ 32 ≡ 0 → e % 2 ^ l ≡ 0

@@ -22,7 +22,7 @@ use Rattle.gf128.proofs.Xor.{xor-assoc, xor-shl}
 use Rattle.ghash_block.proofs.Halves.{halves-xor}
 use Rattle.ghash_block.specs.declared.block.Block.{Block}
 use Rattle.ghash_block.specs.Block.{valueOf}
-use Rattle.ghash_fast.specs.Table.{pairAt, nibble, fourOf, MultiplesPut, ReductionsAt, ReductionsIn, TablesTo}
+use Rattle.ghash_tables.specs.Table.{pairAt, nibble, fourOf, MultiplesPut, ReductionsAt, ReductionsIn, TablesTo}
 
 -- ---- the reductions
 

@@ -4,8 +4,8 @@ use native.Mathlib.Numerals.{towards-suc}
 use native.Mathlib.Omega.{arith}
 use lib.ListN.{length-set}
 use borrow.Author.Needs.{needs}
-use Rattle.ghash_fast.proofs.put_four.Statement.{statement}
-use Rattle.ghash_fast.proofs.put_four.Tie as tie
+use Rattle.ghash_tables.proofs.put_four.Statement.{statement}
+use Rattle.ghash_tables.proofs.put_four.Tie as tie
 
 mul-t : tie.Need-mul-t
 mul-t c = search needs

@@ -10,10 +10,10 @@ use lib.Seq.{getD-set-same, getD-set-other}
 use borrow.Author.Count.{below-none, below-more}
 use borrow.Author.Needs.{needs}
 use Rattle.gf128.specs.Field.{timesXOf, shiftedOf}
-use Rattle.ghash_fast.specs.Table.{ReductionsAt}
-use Rattle.ghash_fast.proofs.Multiples.{reduced}
-use Rattle.ghash_fast.proofs.put_reductions.Statement.{statement}
-use Rattle.ghash_fast.proofs.put_reductions.Tie as tie
+use Rattle.ghash_tables.specs.Table.{ReductionsAt}
+use Rattle.ghash_tables.proofs.Multiples.{reduced}
+use Rattle.ghash_tables.proofs.put_reductions.Statement.{statement}
+use Rattle.ghash_tables.proofs.put_reductions.Tie as tie
 
 abbrev Inv-loop : tie.InvT-loop
 Inv-loop t₀ r n₀ t n =

@@ -7,10 +7,10 @@ use borrow.Author.Needs.{needs}
 use Rattle.gf128.specs.Field.{reduction, shiftedOf, shifted}
 use Rattle.gf128.proofs.Places.{shiftedOf-add}
 use Rattle.ghash_block.specs.Block.{valueOf}
-use Rattle.ghash_fast.specs.Table.{TablesTo}
-use Rattle.ghash_fast.proofs.Multiples.{no-table, next-table}
-use Rattle.ghash_fast.proofs.fill_tables.Statement.{statement}
-use Rattle.ghash_fast.proofs.fill_tables.Tie as tie
+use Rattle.ghash_tables.specs.Table.{TablesTo}
+use Rattle.ghash_tables.proofs.Multiples.{no-table, next-table}
+use Rattle.ghash_tables.proofs.fill_tables.Statement.{statement}
+use Rattle.ghash_tables.proofs.fill_tables.Tie as tie
 
 abbrev Inv-loop : tie.InvT-loop
 Inv-loop t₀ v₀ q₀ t v q = (q ≤ 3) × TablesTo (q + 1) (valueOf v₀) t × (valueOf v ≡ shifted (valueOf v₀) (32 * q))

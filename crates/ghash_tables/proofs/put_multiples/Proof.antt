@@ -2,9 +2,9 @@
 -- Assumes nothing.
 use native.Mathlib.Omega.{arith}
 use borrow.Author.Needs.{needs}
-use Rattle.ghash_fast.proofs.Multiples.{sixteen-put}
-use Rattle.ghash_fast.proofs.put_multiples.Statement.{statement}
-use Rattle.ghash_fast.proofs.put_multiples.Tie as tie
+use Rattle.ghash_tables.proofs.Multiples.{sixteen-put}
+use Rattle.ghash_tables.proofs.put_multiples.Statement.{statement}
+use Rattle.ghash_tables.proofs.put_multiples.Tie as tie
 
 times-x-requires : tie.Need-times-x-requires
 times-x-requires c κs = search needs

@@ -3,8 +3,8 @@
 use borrow.Author.Needs.{needs}
 use Rattle.gf128.specs.Field.{reduction}
 use Rattle.ghash_block.proofs.Halves.{moved-lt, halves-shifted}
-use Rattle.ghash_fast.proofs.times_x32.Statement.{statement}
-use Rattle.ghash_fast.proofs.times_x32.Tie as tie
+use Rattle.ghash_tables.proofs.times_x32.Statement.{statement}
+use Rattle.ghash_tables.proofs.times_x32.Tie as tie
 
 reduced-requires : tie.Need-reduced-requires
 reduced-requires c κs = search needs
