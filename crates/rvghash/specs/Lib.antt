@@ -1,4 +1,2 @@
 pub mod Call
-pub mod Lent
-pub mod Out
 pub mod StepBack

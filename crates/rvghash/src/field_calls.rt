@@ -3,11 +3,11 @@ ghost use mathlib.Core.Path.{_≡_};
 ghost use Rattle.gf128.specs.Degree.{degreeNumber, degreePlace};
 ghost use Rattle.rvghash.specs.StepBack.{StepsBackInto};
 ghost use Rattle.gf128.specs.Entries.{productNumber, productOut};
-use crate::out::put_answer;
 use ghash_block::block::degree;
 use ghash_bytes::block_at;
 use ghash_fast::product_fast_bytes;
 use ghash_inverse::step_back::step_back_bytes;
+use ghash_lent::out::put_answer;
 use ghash_plain::product_plain_bytes;
 
 #[no_mangle]

@@ -1,7 +1,7 @@
 // The hash of a whole message.
 ghost use mathlib.Core.Path.{_≡_};
 ghost use Rattle.gf128.specs.Entries.{hashNumber, hashOut};
-use crate::out::put_answer;
+use ghash_lent::out::put_answer;
 use ghash_whole::ghash_fast;
 use ghash_whole::ghash_plain;
 

@@ -1,6 +1,6 @@
 -- `rvghash_product_fast` meets its contract. Assumes nothing.
 use denote.Ref.{now}
-use Rattle.rvghash.proofs.Written.{answered}
+use Rattle.ghash_lent.proofs.Written.{answered}
 use borrow.Author.Needs.{needs}
 use Rattle.rvghash.proofs.field_calls.rvghash_product_fast.Statement.{statement}
 use Rattle.rvghash.proofs.field_calls.rvghash_product_fast.Tie as tie

@@ -1,10 +1,11 @@
--- `rvghash_feed_c_plain` meets its contract, by the walk of `Lent.antt`: it hands the lent running hash to `fed_c_plain`.
+-- `rvghash_feed_c_plain` meets its contract, by the walk of `ghash_lent/proofs/Lent.antt`: it hands the lent running hash to `fed_c_plain`, whose promise gives its own, field by field.
 -- Assumes nothing.
 use mir.Syntax.{imm}
 use Rattle.ghash_running.specs.Answers.{FeedsC}
 use Rattle.ghash_running.proofs.fed_c_plain.Symbol.{name as #g, routine}
 use Rattle.ghash_running.proofs.fed_c_plain.Met.{met}
-use Rattle.rvghash.proofs.Lent.{Says, lent-meets}
+use Rattle.ghash_lent.proofs.Lent.{Says, so, lent-meets}
+use Rattle.rvghash.proofs.running_calls.rvghash_feed_c_plain as f
 use Rattle.rvghash.proofs.running_calls.rvghash_feed_c_plain.Key.{name as #f}
 use Rattle.rvghash.proofs.running_calls.rvghash_feed_c_plain.Statement.{statement}
 use Rattle.rvghash.proofs.running_calls.rvghash_feed_c_plain.Code as code
@@ -14,4 +15,6 @@ said key s piece number t _ = FeedsC key s piece number t
 
 pub rvghash-feed-c-plain-spec : {M : Type 1} → statement M
 unfolding code.routine
-rvghash-feed-c-plain-spec 𝓤 H 𝓜 𝓖 𝓡 = lent-meets imm said 𝓤 H #g 𝓜 𝓖 𝓡 code.env #f (code.unfolded 𝓤 H 𝓜 𝓡) routine code.calls-ghash-running·fed-c-plain (met 𝓤 H 𝓜 𝓖 𝓡)
+rvghash-feed-c-plain-spec 𝓤 H 𝓜 𝓖 𝓡 =
+    lent-meets imm said 𝓤 H #g (f.clauses 𝓤 H (𝓖 .A) (𝓜 .mem) (𝓡 .run)) 𝓜 𝓖 𝓡 code.env #f (code.unfolded 𝓤 H 𝓜 𝓡) routine code.calls-ghash-running·fed-c-plain (met 𝓤 H 𝓜 𝓖 𝓡)
+    (λ κs a x r e p. so 𝓤 (record { answer = p .answer; state = p .state; kept = p .kept; spare = p .spare }))

@@ -5,10 +5,10 @@ use denote.Ref.{now}
 use borrow.Author.Tests.{eq-eqb, ne-eqb}
 use lib.ListN.{length}
 use Rattle.ghash_block.specs.Block.{valueOf}
-use Rattle.rvghash.proofs.Written.{out-other}
+use Rattle.ghash_lent.proofs.Written.{out-other}
 use borrow.Author.Needs.{needs}
-use Rattle.rvghash.proofs.running_calls.finished_into.Statement.{statement}
-use Rattle.rvghash.proofs.running_calls.finished_into.Tie as tie
+use Rattle.ghash_lent.proofs.finish.finished_into.Statement.{statement}
+use Rattle.ghash_lent.proofs.finish.finished_into.Tie as tie
 
 returns : tie.Need-returns
 returns c =

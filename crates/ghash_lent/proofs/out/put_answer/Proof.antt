@@ -4,10 +4,10 @@ use native.Mathlib.Omega.{arith}
 use denote.Ref.{now}
 use lib.ListN.{length}
 use Rattle.ghash_block.specs.Block.{valueOf}
-use Rattle.rvghash.proofs.Written.{out-other, out-put}
+use Rattle.ghash_lent.proofs.Written.{out-other, out-put}
 use borrow.Author.Needs.{needs}
-use Rattle.rvghash.proofs.out.put_answer.Statement.{statement}
-use Rattle.rvghash.proofs.out.put_answer.Tie as tie
+use Rattle.ghash_lent.proofs.out.put_answer.Statement.{statement}
+use Rattle.ghash_lent.proofs.out.put_answer.Tie as tie
 
 returns : tie.Need-returns
 returns c =

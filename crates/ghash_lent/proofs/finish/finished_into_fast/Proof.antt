@@ -1,9 +1,9 @@
 -- `finished_into_fast` meets its contract. Assumes nothing.
 use denote.Ref.{now}
-use Rattle.rvghash.proofs.Written.{finish-into}
+use Rattle.ghash_lent.proofs.Written.{finish-into}
 use borrow.Author.Needs.{needs}
-use Rattle.rvghash.proofs.running_calls.finished_into_fast.Statement.{statement}
-use Rattle.rvghash.proofs.running_calls.finished_into_fast.Tie as tie
+use Rattle.ghash_lent.proofs.finish.finished_into_fast.Statement.{statement}
+use Rattle.ghash_lent.proofs.finish.finished_into_fast.Tie as tie
 
 finished-fast-requires : tie.Need-finished-fast-requires
 finished-fast-requires c κs = search needs

@@ -1,9 +1,9 @@
 -- `finished_into_plain` meets its contract. Assumes nothing.
 use denote.Ref.{now}
-use Rattle.rvghash.proofs.Written.{finish-into}
+use Rattle.ghash_lent.proofs.Written.{finish-into}
 use borrow.Author.Needs.{needs}
-use Rattle.rvghash.proofs.running_calls.finished_into_plain.Statement.{statement}
-use Rattle.rvghash.proofs.running_calls.finished_into_plain.Tie as tie
+use Rattle.ghash_lent.proofs.finish.finished_into_plain.Statement.{statement}
+use Rattle.ghash_lent.proofs.finish.finished_into_plain.Tie as tie
 
 finished-plain-requires : tie.Need-finished-plain-requires
 finished-plain-requires c κs = search needs

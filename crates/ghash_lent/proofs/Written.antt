@@ -1,6 +1,6 @@
 -- What is written to `out`, and what a finishing call gives back, go from the by-value answers to the C functions' promises.
 -- Assumes nothing.
-use mathlib.Core.Path.{_≡_, refl, sym, ap, _∙_, subst}
+use mathlib.Core.Path.{_≡_, refl, ap, _∙_}
 use mathlib.Core.Bool.{Bool, true, false, cond}
 use mathlib.Core.List.{List, [], _++_, append-nil}
 use Prim.Native.Nat.{ℕ, _+_, _≤_}
@@ -20,9 +20,7 @@ use Rattle.ghash_state.specs.State.{view}
 use Rattle.ghash_running.specs.Answers.{Updates, Finishes}
 use Rattle.ghash_state.specs.declared.Running.{Running}
 use Rattle.ghash_running.specs.declared.Finished.{Finished}
-use Rattle.rvghash.specs.Lent.{FinishesInto, stateFor}
-use Rattle.ghash_inverse.specs.StepBack.{StepsBackBytes}
-use Rattle.rvghash.specs.StepBack.{StepsBackInto}
+use Rattle.ghash_lent.specs.Finish.{FinishesInto, stateFor}
 
 -- an `out` of another length: 9, and nothing is written
 pub out-other : (out : List ℕ) (n v : ℕ) → (length out ≡ 16 → ⊥) → (9 ≡ outNumber out n) × (out ≡ outBytes out v)
@@ -60,15 +58,3 @@ pub finish-into : (key : List ℕ) (s : Running) (out : List ℕ) (f : Finished)
     → FinishesInto key s out n t out′
 finish-into key s out f n t out′ h p =
     (into (eqb (length out) 16) (finishRefusal key (view s)) (afterFinish key (view s)) s f n t (h .0) (p .0) (p .1), p .2 ∙ ap (outBytes out) (h .1))
-
--- a step back's answer, once its block is put to `out`
-pub stepped : (key block later out out′ : List ℕ) (n : ℕ) (a : Answer)
-    → StepsBackBytes key block later (a .number) (valueOf (a .block))
-    → (n ≡ outNumber out (a .number)) × (out′ ≡ outBytes out (valueOf (a .block)))
-    → StepsBackInto key block later out n out′
-stepped key block later out out′ n a h q =
-    record {
-      other = λ f. (q .0 ∙ rw (ne-eqb (length out) 16 f), q .1 ∙ rw (ne-eqb (length out) 16 f));
-      into = λ e.
-          (valueOf (a .block), (q .1 ∙ rw (eq-eqb (length out) 16 e), subst (λ (m : ℕ). StepsBackBytes key block later m (valueOf (a .block))) (sym (q .0 ∙ rw (eq-eqb (length out) 16 e))) h));
-    }
