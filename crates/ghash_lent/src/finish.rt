@@ -5,10 +5,10 @@ ghost use Rattle.gf128.specs.Entries.{outNumber, outBytes};
 ghost use Rattle.ghash_lent.specs.Finish.{FinishesInto, stateFor};
 use crate::out::put_answer;
 use ghash_block::answer::Answer;
+use ghash_paths::finished_fast;
+use ghash_paths::finished_plain;
 use ghash_running::Fed;
 use ghash_running::Finished;
-use ghash_running::finished_fast;
-use ghash_running::finished_plain;
 use ghash_state::Running;
 
 // Writes what a finishing call gave to `out`; where that is not 16 bytes long, the running hash stays as it was.

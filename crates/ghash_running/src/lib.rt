@@ -1,4 +1,4 @@
-// The running hash: a message in pieces, on the plain and on the fast path. It holds no key; the key comes with every call.
+// The running hash: a message in pieces, on a path that is given. It holds no key; the key comes with every call.
 ghost use mathlib.Core.Path.{_≡_};
 ghost use mathlib.Core.Bool.{cond};
 ghost use lib.Dec.{eqb};
@@ -76,7 +76,8 @@ fn feed_refused(number: u32, before: Running) -> Fed
     }
 }
 
-fn fed_a_on(path: Path, state: Running, key: &[u8], piece: &[u8]) -> Fed
+// Feeds a piece of A. Document 01's number; on a refusal the running hash comes back as it was.
+pub fn fed_a_on(path: Path, state: Running, key: &[u8], piece: &[u8]) -> Fed
     ensures { λ r. ⌜ FeedsA (now (key .entry)) state (now (piece .entry)) (r .number) (r .state) ⌝ }
 {
     let number = call_refusal(state, key);
@@ -103,21 +104,8 @@ fn fed_a_on(path: Path, state: Running, key: &[u8], piece: &[u8]) -> Fed
     }
 }
 
-// Feeds a piece of A on the plain path. Document 01's number; on a refusal the running hash comes back as it was.
-pub fn fed_a_plain(state: Running, key: &[u8], piece: &[u8]) -> Fed
-    ensures { λ r. ⌜ FeedsA (now (key .entry)) state (now (piece .entry)) (r .number) (r .state) ⌝ }
-{
-    fed_a_on(Path::Plain, state, key, piece)
-}
-
-// The same on the fast path.
-pub fn fed_a_fast(state: Running, key: &[u8], piece: &[u8]) -> Fed
-    ensures { λ r. ⌜ FeedsA (now (key .entry)) state (now (piece .entry)) (r .number) (r .state) ⌝ }
-{
-    fed_a_on(Path::Fast, state, key, piece)
-}
-
-fn fed_c_on(path: Path, state: Running, key: &[u8], piece: &[u8]) -> Fed
+// Feeds a piece of C; the first, even of length 0, ends A.
+pub fn fed_c_on(path: Path, state: Running, key: &[u8], piece: &[u8]) -> Fed
     ensures { λ r. ⌜ FeedsC (now (key .entry)) state (now (piece .entry)) (r .number) (r .state) ⌝ }
 {
     let number = call_refusal(state, key);
@@ -141,20 +129,6 @@ fn fed_c_on(path: Path, state: Running, key: &[u8], piece: &[u8]) -> Fed
     }
 }
 
-// Feeds a piece of C on the plain path; the first, even of length 0, ends A.
-pub fn fed_c_plain(state: Running, key: &[u8], piece: &[u8]) -> Fed
-    ensures { λ r. ⌜ FeedsC (now (key .entry)) state (now (piece .entry)) (r .number) (r .state) ⌝ }
-{
-    fed_c_on(Path::Plain, state, key, piece)
-}
-
-// The same on the fast path.
-pub fn fed_c_fast(state: Running, key: &[u8], piece: &[u8]) -> Fed
-    ensures { λ r. ⌜ FeedsC (now (key .entry)) state (now (piece .entry)) (r .number) (r .state) ⌝ }
-{
-    fed_c_on(Path::Fast, state, key, piece)
-}
-
 // The bytes of the part that is open: A's in phase 0, C's in phase 1.
 fn current_count(state: Running) -> u32
     ensures { λ r. ⌜ r ≡ cond (eqb (view state .phase) 0) (view state .countA) (view state .countC) ⌝ }
@@ -165,7 +139,8 @@ fn current_count(state: Running) -> u32
     state.c_count
 }
 
-fn finished_on(path: Path, state: Running, key: &[u8]) -> Finished
+// Finishes: the hash, which is then also Y.
+pub fn finished_on(path: Path, state: Running, key: &[u8]) -> Finished
     ensures { λ r. ⌜ Finishes (now (key .entry)) state (r .number) (r .state) (r .block) ⌝ }
 {
     let number = call_refusal(state, key);
@@ -193,18 +168,4 @@ fn finished_on(path: Path, state: Running, key: &[u8]) -> Finished
         state: after,
         block: hash,
     }
-}
-
-// Finishes on the plain path: the hash, which is then also Y.
-pub fn finished_plain(state: Running, key: &[u8]) -> Finished
-    ensures { λ r. ⌜ Finishes (now (key .entry)) state (r .number) (r .state) (r .block) ⌝ }
-{
-    finished_on(Path::Plain, state, key)
-}
-
-// The same on the fast path.
-pub fn finished_fast(state: Running, key: &[u8]) -> Finished
-    ensures { λ r. ⌜ Finishes (now (key .entry)) state (r .number) (r .state) (r .block) ⌝ }
-{
-    finished_on(Path::Fast, state, key)
 }

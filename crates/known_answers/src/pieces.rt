@@ -1,14 +1,14 @@
 // A message cut into pieces for the running hash.
 ghost use Prim.Native.Nat.{_<_, _≤_};
 use ghash_block::answer::Answer;
+use ghash_paths::fed_a_fast;
+use ghash_paths::fed_a_plain;
+use ghash_paths::fed_c_fast;
+use ghash_paths::fed_c_plain;
+use ghash_paths::finished_fast;
+use ghash_paths::finished_plain;
 use ghash_running::Fed;
 use ghash_running::Finished;
-use ghash_running::fed_a_fast;
-use ghash_running::fed_a_plain;
-use ghash_running::fed_c_fast;
-use ghash_running::fed_c_plain;
-use ghash_running::finished_fast;
-use ghash_running::finished_plain;
 use ghash_state::Running;
 use ghash_whole::Path;
 

@@ -3,7 +3,6 @@ ghost use mathlib.Core.Path.{_≡_};
 ghost use Rattle.gf128.specs.Degree.{degreeNumber, degreePlace};
 ghost use Rattle.rvghash.specs.StepBack.{StepsBackInto};
 ghost use Rattle.gf128.specs.Entries.{productNumber, productOut};
-use ghash_block::block::degree;
 use ghash_bytes::block_at;
 use ghash_fast::product_fast_bytes;
 use ghash_inverse::step_back::step_back_bytes;

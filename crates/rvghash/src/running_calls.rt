@@ -4,10 +4,10 @@ ghost use Rattle.ghash_running.specs.Answers.{FeedsA, FeedsC};
 ghost use Rattle.ghash_lent.specs.Finish.{FinishesInto};
 use ghash_lent::finish::finished_into_fast;
 use ghash_lent::finish::finished_into_plain;
-use ghash_running::fed_a_fast;
-use ghash_running::fed_a_plain;
-use ghash_running::fed_c_fast;
-use ghash_running::fed_c_plain;
+use ghash_paths::fed_a_fast;
+use ghash_paths::fed_a_plain;
+use ghash_paths::fed_c_fast;
+use ghash_paths::fed_c_plain;
 use ghash_state::Running;
 
 // Makes the lent running hash a fresh one.
