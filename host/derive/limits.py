@@ -6,7 +6,7 @@ AES-GCM of the `cryptography` package gives Tag = GHASH_H(A, C) xor AES_K(J0); s
 the pattern as the ciphertext, what is encrypted is the pattern xored with the key stream.
 
 Usage: limits.py [-o OUTPUT]
-OUTPUT is by default the file that the program known_answers reads; SHA256SUMS has its checksum. It has three records of H (16 bytes) and GHASH (16 bytes): A alone, C alone, A and C, each of 1,048,576 bytes.
+OUTPUT is by default the file that the program known_hashes reads; SHA256SUMS has its checksum. It has three records of H (16 bytes) and GHASH (16 bytes): A alone, C alone, A and C, each of 1,048,576 bytes.
 """
 
 import argparse
@@ -16,7 +16,7 @@ import os
 from cryptography.hazmat.primitives.ciphers import Cipher, algorithms, modes
 from cryptography.hazmat.primitives.ciphers.aead import AESGCM
 
-OUTPUT = os.path.join(os.path.dirname(os.path.abspath(__file__)), "../../crates/known_answers/data/limits.bin")
+OUTPUT = os.path.join(os.path.dirname(os.path.abspath(__file__)), "../../crates/known_hashes/data/limits.bin")
 LIMIT = 1_048_576
 
 

@@ -10,7 +10,7 @@ taken from the tag; the GHASH below only checks it.
 Usage: vectors.py [DATA_DIR] [-o OUTPUT]
 DATA_DIR holds gcmEncryptExtIV{128,192,256}.rsp. By default it is looked up
 in the Debian package python3-cryptography-vectors. OUTPUT is by default the
-file that the program known_answers reads; SHA256SUMS has its checksum.
+file that the program known_hashes reads; SHA256SUMS has its checksum.
 """
 
 import argparse
@@ -25,7 +25,7 @@ import sys
 from cryptography.hazmat.primitives.ciphers import Cipher, algorithms, modes
 
 OUTPUT = os.path.join(os.path.dirname(os.path.abspath(__file__)),
-                      "../../crates/known_answers/data/gcm.bin")
+                      "../../crates/known_hashes/data/gcm.bin")
 PACKAGE = "python3-cryptography-vectors"
 KEY_BITS = (128, 192, 256)
 PER_GROUP = 6  # records for each (key size, len A, len C)

@@ -5,7 +5,7 @@ Before each call byte i of the file is (7 i + 3) mod 251, a pattern that the pro
 call and the number that document 01 answers; the model gives the bytes, where that number is 0.
 
 Usage: words.py [-o OUTPUT]
-OUTPUT is by default the file that the program known_answers reads; SHA256SUMS has its checksum. It has a record a row, of
+OUTPUT is by default the file that the program known_words reads; SHA256SUMS has its checksum. It has a record a row, of
 numbers low byte first: group, word, VLEN, SEW, LMUL, vl, vstart (4 bytes each), scalar (8 bytes), length of the file, number,
 start and length of the bytes that change (4 bytes each); then those bytes as they should be. The last group asks for register
 groups: there the register stands in the word's place.
@@ -16,7 +16,7 @@ import hashlib
 import os
 import struct
 
-OUTPUT = os.path.join(os.path.dirname(os.path.abspath(__file__)), "../../crates/known_answers/data/words.bin")
+OUTPUT = os.path.join(os.path.dirname(os.path.abspath(__file__)), "../../crates/known_words/data/words.bin")
 SCALAR = 0xF1E2_D3C4_B5A6_9788
 
 

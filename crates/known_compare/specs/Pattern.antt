@@ -2,6 +2,7 @@
 -- Assumes nothing.
 use Prim.Native.Nat.{ℕ, zero, suc, _+_, _%_, _^_}
 use mathlib.Core.Bool.{cond}
+use mathlib.Core.List.{List, [], _∷_}
 use lib.Dec.{eqb}
 use Rattle.known_compare.specs.declared.pattern.Pattern.{Pattern}
 
@@ -15,3 +16,12 @@ numberAt p (suc i) = nextOf p (numberAt p i)
 
 abbrev pub byteAt : Pattern → ℕ → ℕ
 byteAt p i = numberAt p i % 256
+
+-- n bytes of the pattern, from byte i on
+unfoldable pub filledFrom : Pattern → ℕ → ℕ → List ℕ
+filledFrom p i zero = []
+filledFrom p i (suc n) = byteAt p i ∷ filledFrom p (i + 1) n
+
+-- n bytes that `fill` leaves
+abbrev pub filled : Pattern → ℕ → List ℕ
+filled p n = filledFrom p 0 n

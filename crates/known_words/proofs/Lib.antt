@@ -1,0 +1,2 @@
+mod Agreement
+mod Elements

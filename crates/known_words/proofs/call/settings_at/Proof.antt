@@ -1,0 +1,40 @@
+-- `settings_at` reads the five settings. Assumes nothing.
+use borrow.Author.Needs.{needs}
+use Rattle.known_words.proofs.call.settings_at.Statement.{statement}
+use Rattle.known_words.proofs.call.settings_at.Tie as tie
+
+number-at-requires : tie.Need-number-at-requires
+number-at-requires c κs = search needs
+
+number-at-requires-2 : tie.Need-number-at-requires-2
+number-at-requires-2 c κs = search needs
+
+number-at-requires-3 : tie.Need-number-at-requires-3
+number-at-requires-3 c κs = search needs
+
+number-at-requires-4 : tie.Need-number-at-requires-4
+number-at-requires-4 c κs = search needs
+
+number-at-requires-5 : tie.Need-number-at-requires-5
+number-at-requires-5 c κs = search needs
+
+returns : tie.Need-returns
+returns c =
+    rw (
+      c .before .before .before .before .number-at .ensures,
+      c .before .before .before .number-at2 .ensures,
+      c .before .before .number-at3 .ensures,
+      c .before .number-at4 .ensures,
+      c .number-at5 .ensures,
+    )
+
+pub settings-at-spec : {M : Type 1} → statement M
+settings-at-spec =
+    tie.close
+    (tie.spec
+    number-at-requires
+    number-at-requires-2
+    number-at-requires-3
+    number-at-requires-4
+    number-at-requires-5
+    returns)
