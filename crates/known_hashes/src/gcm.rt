@@ -7,8 +7,8 @@ use crate::hashes::Way;
 use crate::hashes::hash_answer;
 use crate::pieces::Mix;
 use ghash_bytes::block_at;
-use known_compare::place::counted_end;
-use known_compare::place::part_end;
+use known_bytes::place::counted_end;
+use known_bytes::place::part_end;
 use known_report::data_file::read;
 use known_report::report::report;
 

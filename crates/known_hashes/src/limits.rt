@@ -6,8 +6,8 @@ use crate::pieces::Mix;
 use ghash_block::block::Block;
 use ghash_bytes::block_at;
 use ghash_whole::LIMIT;
-use known_compare::pattern::Pattern;
-use known_compare::pattern::fill;
+use known_bytes::pattern::Pattern;
+use known_bytes::pattern::fill;
 use known_report::data_file::read;
 use known_report::report::report;
 

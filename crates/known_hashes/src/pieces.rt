@@ -13,7 +13,7 @@ use ghash_running::Fed;
 use ghash_running::Finished;
 use ghash_state::Running;
 use ghash_whole::Path;
-use known_compare::place::part_end;
+use known_bytes::place::part_end;
 
 // Which path each call takes.
 pub enum Mix {

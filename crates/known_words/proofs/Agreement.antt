@@ -9,9 +9,9 @@ use lib.ListN.{length, getD, take, drop}
 use lib.Seq.{sets, length-take-le}
 use borrow.Author.Tests.{eq-eqb, eqb-true}
 use Rattle.octets.specs.LittleEndian.{readLe}
-use Rattle.known_compare.specs.declared.pattern.Pattern.{Pattern}
-use Rattle.known_compare.specs.Pattern.{byteAt, filled}
-use Rattle.known_compare.proofs.Filled.{is-filled}
+use Rattle.known_bytes.specs.declared.pattern.Pattern.{Pattern}
+use Rattle.known_bytes.specs.Pattern.{byteAt, filled}
+use Rattle.known_bytes.proofs.Filled.{is-filled}
 use Rattle.vector_registers.specs.declared.settings.Settings.{Settings}
 use Rattle.vector_group.specs.Group.{groupRefusal, groupOf}
 use Rattle.vector_refusal.specs.Refusal.{refusalOf}

@@ -7,8 +7,8 @@ use lib.Dec.{eqb}
 use lib.ListN.{length, getD}
 use borrow.Author.Tests.{eq-eqb, eqb-true}
 use Rattle.octets.specs.LittleEndian.{writeLe}
-use Rattle.known_compare.specs.Pattern.{byteAt}
-use Rattle.known_compare.proofs.Filled.{is-filled}
+use Rattle.known_bytes.specs.Pattern.{byteAt}
+use Rattle.known_bytes.proofs.Filled.{is-filled}
 use Rattle.vector_refusal.specs.Refusal.{refusalOf}
 use Rattle.vector_execute.specs.Execute.{executed}
 use Rattle.vector_word.specs.declared.Fields.{Fields}

@@ -8,8 +8,8 @@ use lib.Dec.{eqb}
 use lib.ListN.{length, take, drop}
 use lib.Seq.{sets}
 use Rattle.octets.specs.LittleEndian.{readLe}
-use Rattle.known_compare.specs.Pattern.{filled}
-use Rattle.known_compare.specs.declared.pattern.Pattern.{Pattern}
+use Rattle.known_bytes.specs.Pattern.{filled}
+use Rattle.known_bytes.specs.declared.pattern.Pattern.{Pattern}
 use Rattle.vector_registers.specs.declared.settings.Settings.{Settings}
 use Rattle.vector_group.specs.Group.{groupRefusal, groupOf}
 use Rattle.vector_refusal.specs.Refusal.{refusalOf}

@@ -2,7 +2,7 @@
 ghost use mathlib.Core.Path.{_≡_};
 ghost use Rattle.octets.specs.LittleEndian.{readLe};
 ghost use Rattle.known_words.specs.Call.{numberAt, settingsAt};
-use known_compare::pattern::Pattern;
+use known_bytes::pattern::Pattern;
 use octets_le::read_le;
 use vector_registers::settings::Settings;
 

@@ -4,7 +4,7 @@ use mathlib.Core.Path.{sym, ap, _∙_}
 use native.Mathlib.Omega.{arith}
 use lib.ListN.{length}
 use lib.Seq.{length-take-le}
-use Rattle.known_compare.proofs.Filled.{is-filled}
+use Rattle.known_bytes.proofs.Filled.{is-filled}
 use Rattle.known_words.specs.Call.{expected}
 use borrow.Author.Needs.{needs}
 use Rattle.known_words.proofs.Agreement.{agreement}

@@ -1,9 +1,8 @@
 // Bytes that can be made again.
-ghost use mathlib.Core.Bool.{true};
 ghost use mathlib.Core.Path.{_≡_};
 ghost use Prim.Native.Nat.{ℕ, _<_};
 ghost use lib.ListN.{length, getD};
-ghost use Rattle.known_compare.specs.Pattern.{nextOf, byteAt};
+ghost use Rattle.known_bytes.specs.Pattern.{nextOf, byteAt};
 
 // Byte i is (step i + first) mod modulus: the first, the step and the modulus.
 pub struct Pattern(pub u64, pub u64, pub u64);
@@ -31,21 +30,4 @@ pub fn fill(p: Pattern, s: &mut [u8])
         b = p.next(b);
         i += 1;
     }
-}
-
-// Whether all of s is as `fill` leaves it.
-pub fn is_filled(p: Pattern, s: &[u8]) -> bool
-    ensures { λ r. ⌜ (r ≡ true → (i : ℕ) → i < length (now (s .entry)) → getD (now (s .entry)) i 0 ≡ byteAt p i)
-        × (((i : ℕ) → i < length (now (s .entry)) → getD (now (s .entry)) i 0 ≡ byteAt p i) → r ≡ true) ⌝ }
-{
-    let mut b = p.0;
-    let mut i: usize = 0;
-    while i < s.len() {
-        if s[i] != (b % 256) as u8 {
-            return false;
-        }
-        b = p.next(b);
-        i += 1;
-    }
-    true
 }

@@ -6,11 +6,11 @@ use native.Mathlib.Omega.{arith}
 use lib.ListN.{length, length-set, getD}
 use lib.Seq.{getD-set-same, getD-set-other}
 use borrow.Author.Count.{below-none, below-more}
-use Rattle.known_compare.specs.Pattern.{numberAt, byteAt}
-use Rattle.known_compare.proofs.Numbers.{number-next}
+use Rattle.known_bytes.specs.Pattern.{numberAt, byteAt}
+use Rattle.known_bytes.proofs.Numbers.{number-next}
 use borrow.Author.Needs.{needs}
-use Rattle.known_compare.proofs.pattern.fill.Statement.{statement}
-use Rattle.known_compare.proofs.pattern.fill.Tie as tie
+use Rattle.known_bytes.proofs.pattern.fill.Statement.{statement}
+use Rattle.known_bytes.proofs.pattern.fill.Tie as tie
 
 abbrev Inv-loop : tie.InvT-loop
 Inv-loop p s₀ b₀ i₀ s b i =

@@ -6,9 +6,9 @@ use native.Mathlib.Omega.{arith}
 use lib.ListN.{length, length-set, take}
 use lib.Seq.{sets}
 use borrow.Author.Needs.{needs}
-use Rattle.known_compare.proofs.Stores.{sets-past, sets-cut, sets-next}
-use Rattle.known_compare.proofs.place.put.Statement.{statement}
-use Rattle.known_compare.proofs.place.put.Tie as tie
+use Rattle.known_bytes.proofs.Stores.{sets-past, sets-cut, sets-next}
+use Rattle.known_bytes.proofs.place.put.Statement.{statement}
+use Rattle.known_bytes.proofs.place.put.Tie as tie
 
 abbrev Inv-loop : tie.InvT-loop
 Inv-loop s₀ at part end i₀ s i =

@@ -3,8 +3,8 @@ use mathlib.Core.Path.{ap}
 use Prim.Native.Nat.{ℕ, _%_}
 use borrow.Author.Needs.{needs}
 use borrow.Author.Tests.{eq-eqb, ne-eqb}
-use Rattle.known_compare.proofs.pattern.Pattern.next.Statement.{statement}
-use Rattle.known_compare.proofs.pattern.Pattern.next.Tie as tie
+use Rattle.known_bytes.proofs.pattern.Pattern.next.Statement.{statement}
+use Rattle.known_bytes.proofs.pattern.Pattern.next.Tie as tie
 
 returns : tie.Need-returns
 returns c = rw (eq-eqb _ 0 (c .if1 .taken))

@@ -4,8 +4,8 @@ use mathlib.Core.List.{List, [], _∷_}
 use Prim.Native.Nat.{ℕ, suc, _+_, _<_}
 use native.Mathlib.Omega.{arith}
 use lib.ListN.{length, getD}
-use Rattle.known_compare.specs.declared.pattern.Pattern.{Pattern}
-use Rattle.known_compare.specs.Pattern.{byteAt, filledFrom, filled}
+use Rattle.known_bytes.specs.declared.pattern.Pattern.{Pattern}
+use Rattle.known_bytes.specs.Pattern.{byteAt, filledFrom, filled}
 
 from-bytes : (p : Pattern) (s : List ℕ) (i : ℕ) → ((k : ℕ) → k < length s → getD s k 0 ≡ byteAt p (i + k))
     → s ≡ filledFrom p i (length s)

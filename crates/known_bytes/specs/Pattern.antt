@@ -4,7 +4,7 @@ use Prim.Native.Nat.{ℕ, zero, suc, _+_, _%_, _^_}
 use mathlib.Core.Bool.{cond}
 use mathlib.Core.List.{List, [], _∷_}
 use lib.Dec.{eqb}
-use Rattle.known_compare.specs.declared.pattern.Pattern.{Pattern}
+use Rattle.known_bytes.specs.declared.pattern.Pattern.{Pattern}
 
 -- the number after b
 abbrev pub nextOf : Pattern → ℕ → ℕ

@@ -2,8 +2,8 @@
 use mathlib.Core.Path.{_≡_, ap, _∙_}
 use Prim.Native.Nat.{ℕ, suc, _+_}
 use native.Mathlib.Omega.{arith}
-use Rattle.known_compare.specs.declared.pattern.Pattern.{Pattern}
-use Rattle.known_compare.specs.Pattern.{nextOf, numberAt}
+use Rattle.known_bytes.specs.declared.pattern.Pattern.{Pattern}
+use Rattle.known_bytes.specs.Pattern.{nextOf, numberAt}
 
 pub number-next : (p : Pattern) (i : ℕ) {b r : ℕ} → r ≡ nextOf p b → b ≡ numberAt p i → r ≡ numberAt p (i + 1)
 unfolding numberAt
