@@ -6,7 +6,7 @@ use ghash_running::fed_a_on;
 use ghash_running::fed_c_on;
 use ghash_running::finished_on;
 use ghash_state::Running;
-use ghash_whole::Path;
+use ghash_step::Path;
 
 // Feeds a piece of A on the plain path. Document 01's number; on a refusal the running hash comes back as it was.
 pub fn fed_a_plain(state: Running, key: &[u8], piece: &[u8]) -> Fed

@@ -3,24 +3,24 @@ ghost use mathlib.Core.Path.{_≡_};
 ghost use mathlib.Core.Bool.{cond};
 ghost use lib.Dec.{eqb};
 ghost use Rattle.ghash_block.specs.Block.{keyOf};
-ghost use Rattle.ghash_whole.specs.Path.{Serves};
+ghost use Rattle.ghash_step.specs.Path.{Serves};
 ghost use Rattle.ghash_state.specs.State.{view, held, partOf};
 ghost use Rattle.ghash_running.specs.Answers.{FeedsA, FeedsC, Finishes};
 ghost use Rattle.gf128.specs.Running.{startedC, finishRefusal};
+use ghash_absorb::absorb;
+use ghash_absorb::close;
 use ghash_block::block::Block;
 use ghash_block::block::Key;
 use ghash_bytes::key_at_start;
+use ghash_state::LIMIT;
 use ghash_state::Part;
 use ghash_state::Running;
-use ghash_state::absorb;
-use ghash_state::close;
 use ghash_state::malformed;
+use ghash_step::Path;
+use ghash_step::length_block;
+use ghash_step::next;
+use ghash_step::put_tables;
 use ghash_tables::TABLES;
-use ghash_whole::LIMIT;
-use ghash_whole::Path;
-use ghash_whole::length_block;
-use ghash_whole::next;
-use ghash_whole::put_tables;
 
 // Document 01's number, and the running hash after the call.
 pub struct Fed {

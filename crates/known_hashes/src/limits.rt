@@ -5,7 +5,7 @@ use crate::hashes::hash_answer;
 use crate::pieces::Mix;
 use ghash_block::block::Block;
 use ghash_bytes::block_at;
-use ghash_whole::LIMIT;
+use ghash_state::LIMIT;
 use known_bytes::pattern::Pattern;
 use known_bytes::pattern::fill;
 use known_report::data_file::read;

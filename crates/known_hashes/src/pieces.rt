@@ -12,7 +12,7 @@ use ghash_paths::finished_plain;
 use ghash_running::Fed;
 use ghash_running::Finished;
 use ghash_state::Running;
-use ghash_whole::Path;
+use ghash_step::Path;
 use known_bytes::place::part_end;
 
 // Which path each call takes.

@@ -9,7 +9,7 @@ use Rattle.gf128.specs.Running.{Part, feedARefusal, finishRefusal, pushed, fedA
 use Rattle.gf128.proofs.Running.{well-formed, first-a, open-call, takes-a}
 use Rattle.ghash_block.specs.Block.{keyOf}
 use Rattle.ghash_state.specs.State.{view, stateOf, held}
-use Rattle.ghash_whole.proofs.Tables.{serves}
+use Rattle.ghash_step.proofs.Tables.{serves}
 use Rattle.ghash_running.proofs.Answers.{refused, refused-with, taken}
 use borrow.Author.Needs.{needs}
 use Rattle.ghash_running.proofs.fed_a_on.Statement.{statement}

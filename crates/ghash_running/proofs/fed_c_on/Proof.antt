@@ -9,7 +9,7 @@ use Rattle.gf128.specs.Running.{Part, feedCRefusal, finishRefusal, pushed, star
 use Rattle.gf128.proofs.Running.{well-formed, started-zeros, first-c, open-call, takes-c}
 use Rattle.ghash_block.specs.Block.{keyOf}
 use Rattle.ghash_state.specs.State.{view, stateOf}
-use Rattle.ghash_whole.proofs.Tables.{serves}
+use Rattle.ghash_step.proofs.Tables.{serves}
 use Rattle.ghash_running.proofs.Answers.{refused, refused-with, taken}
 use borrow.Author.Needs.{needs}
 use Rattle.ghash_running.proofs.fed_c_on.Statement.{statement}

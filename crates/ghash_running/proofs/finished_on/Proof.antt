@@ -10,7 +10,7 @@ use Rattle.gf128.proofs.Parts.{part}
 use Rattle.gf128.proofs.Running.{open-call, takes-end}
 use Rattle.ghash_block.specs.Block.{keyOf}
 use Rattle.ghash_state.specs.State.{view, stateOf, held}
-use Rattle.ghash_whole.proofs.Tables.{serves}
+use Rattle.ghash_step.proofs.Tables.{serves}
 use Rattle.ghash_running.proofs.Answers.{refused, taken, no-hash, hash}
 use borrow.Author.Needs.{needs}
 use Rattle.ghash_running.proofs.finished_on.Statement.{statement}

@@ -4,7 +4,7 @@ use Prim.Native.Nat.{ℕ}
 use Rattle.gf128.specs.Hash.{next, over, blocksOf}
 use Rattle.gf128.proofs.Hash.{ghash-parts}
 use Rattle.ghash_block.specs.Block.{keyOf}
-use Rattle.ghash_whole.proofs.Tables.{serves}
+use Rattle.ghash_step.proofs.Tables.{serves}
 use borrow.Author.Needs.{needs}
 use Rattle.ghash_whole.proofs.hash_of.Statement.{statement}
 use Rattle.ghash_whole.proofs.hash_of.Tie as tie

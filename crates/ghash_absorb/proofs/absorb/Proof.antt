@@ -7,10 +7,10 @@ use lib.Seq.{length-take-le, take-all}
 use Rattle.gf128.specs.Running.{pushed}
 use Rattle.gf128.proofs.Parts.{pushed-mod, pushed-gap}
 use Rattle.ghash_block.specs.Block.{valueOf, keyOf}
 use Rattle.ghash_state.specs.State.{partOf, noneOpen}
 use borrow.Author.Needs.{needs}
-use Rattle.ghash_state.proofs.absorb.Statement.{statement}
-use Rattle.ghash_state.proofs.absorb.Tie as tie
+use Rattle.ghash_absorb.proofs.absorb.Statement.{statement}
+use Rattle.ghash_absorb.proofs.absorb.Tie as tie
 
 sub-gap : tie.Need-sub-gap
 sub-gap c = search needs

@@ -7,10 +7,10 @@ use Rattle.gf128.specs.Bytes.{blockAt}
 use Rattle.gf128.specs.Hash.{next}
 use Rattle.gf128.proofs.Parts.{part-same, push-full, push-open}
 use Rattle.ghash_block.specs.Block.{valueOf, keyOf}
 use Rattle.ghash_state.specs.State.{partOf}
 use borrow.Author.Needs.{needs}
-use Rattle.ghash_state.proofs.push.Statement.{statement}
-use Rattle.ghash_state.proofs.push.Tie as tie
+use Rattle.ghash_absorb.proofs.push.Statement.{statement}
+use Rattle.ghash_absorb.proofs.push.Tie as tie
 
 array-write-bytes : tie.Need-array-write-bytes
 array-write-bytes c = search needs

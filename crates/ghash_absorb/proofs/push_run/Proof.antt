@@ -7,10 +7,10 @@ use mathlib.Core.List.{[]}
 use Rattle.gf128.proofs.Parts.{pushed-mod, pushed-drop}
 use Rattle.gf128.specs.Running.{Part, pushed}
 use Rattle.ghash_block.specs.Block.{keyOf}
-use Rattle.ghash_whole.specs.Path.{Serves}
+use Rattle.ghash_step.specs.Path.{Serves}
 use Rattle.ghash_state.specs.State.{partOf}
-use Rattle.ghash_state.proofs.push_run.Statement.{statement}
-use Rattle.ghash_state.proofs.push_run.Tie as tie
+use Rattle.ghash_absorb.proofs.push_run.Statement.{statement}
+use Rattle.ghash_absorb.proofs.push_run.Tie as tie
 
 abbrev Inv-loop : tie.InvT-loop
 Inv-loop path key t place s part₀ at₀ i₀ part at i =

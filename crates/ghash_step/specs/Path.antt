@@ -4,8 +4,8 @@ use mathlib.Core.Path.{_≡_}
 use mathlib.Core.List.{List}
 use Prim.Native.Nat.{ℕ}
 use Rattle.ghash_block.specs.declared.block.Key.{Key}
-use Rattle.ghash_whole.specs.declared.Path.{Path}
-use Rattle.ghash_whole.specs.declared.Path.the-variants.{Plain, Fast}
+use Rattle.ghash_step.specs.declared.Path.{Path}
+use Rattle.ghash_step.specs.declared.Path.the-variants.{Plain, Fast}
 use Rattle.ghash_block.specs.Block.{keyOf}
 use Rattle.ghash_tables.specs.Table.{TableOf}
 

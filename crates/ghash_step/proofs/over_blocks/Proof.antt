@@ -7,9 +7,9 @@ use Rattle.gf128.specs.Bytes.{blockAt}
 use Rattle.gf128.specs.Hash.{next, over, blocksFrom, blocksOf}
 use Rattle.gf128.proofs.Hash.{over-next}
 use Rattle.ghash_block.specs.Block.{valueOf, keyOf}
-use Rattle.ghash_whole.specs.Path.{Serves}
-use Rattle.ghash_whole.proofs.over_blocks.Statement.{statement}
-use Rattle.ghash_whole.proofs.over_blocks.Tie as tie
+use Rattle.ghash_step.specs.Path.{Serves}
+use Rattle.ghash_step.proofs.over_blocks.Statement.{statement}
+use Rattle.ghash_step.proofs.over_blocks.Tie as tie
 
 abbrev Inv-loop : tie.InvT-loop
 Inv-loop path key t s hash₀ at₀ hash at =

@@ -8,10 +8,10 @@ use lib.Seq.{length-take-le, take-all}
 use Rattle.gf128.specs.Running.{pushed}
 use Rattle.gf128.proofs.Parts.{pushed-cut}
 use Rattle.ghash_block.specs.Block.{valueOf, keyOf}
 use Rattle.ghash_state.specs.State.{noneOpen}
 use borrow.Author.Needs.{needs}
-use Rattle.ghash_state.proofs.push_from_start.Statement.{statement}
-use Rattle.ghash_state.proofs.push_from_start.Tie as tie
+use Rattle.ghash_absorb.proofs.push_from_start.Statement.{statement}
+use Rattle.ghash_absorb.proofs.push_from_start.Tie as tie
 
 mul-whole : tie.Need-mul-whole
 mul-whole c = search needs

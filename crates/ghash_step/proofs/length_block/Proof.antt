@@ -3,8 +3,8 @@ use mathlib.Core.Path.{ap₂}
 use Prim.Native.Nat.{ℕ, _+_, _*_, _^_}
 use Rattle.gf128.specs.Hash.{lengthBlock}
 use borrow.Author.Needs.{needs}
-use Rattle.ghash_whole.proofs.length_block.Statement.{statement}
-use Rattle.ghash_whole.proofs.length_block.Tie as tie
+use Rattle.ghash_step.proofs.length_block.Statement.{statement}
+use Rattle.ghash_step.proofs.length_block.Tie as tie
 
 mul-new : tie.Need-mul-new
 mul-new c = search needs

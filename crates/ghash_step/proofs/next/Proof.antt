@@ -4,12 +4,12 @@ use Prim.Native.Nat.{ℕ}
 use Rattle.gf128.specs.Field.{product}
 use Rattle.gf128.specs.Hash.{next}
 use Rattle.ghash_block.specs.Block.{keyOf}
-use Rattle.ghash_whole.specs.Path.{tablesFor}
-use Rattle.ghash_whole.specs.declared.Path.{Path}
+use Rattle.ghash_step.specs.Path.{tablesFor}
+use Rattle.ghash_step.specs.declared.Path.{Path}
 use denote.Ref.{now}
 use borrow.Author.Needs.{needs}
-use Rattle.ghash_whole.proofs.next.Statement.{statement}
-use Rattle.ghash_whole.proofs.next.Tie as tie
+use Rattle.ghash_step.proofs.next.Statement.{statement}
+use Rattle.ghash_step.proofs.next.Tie as tie
 
 enum-told : tie.Need-enum-told
 enum-told c = search needs

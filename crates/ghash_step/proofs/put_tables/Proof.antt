@@ -1,9 +1,9 @@
 -- `put_tables`: the plain path's tables stay, and `fill_tables` makes the fast path's. Assumes nothing.
 use mathlib.Core.Path.{refl}
-use Rattle.ghash_whole.proofs.Tables.{plain-put, fast-put}
+use Rattle.ghash_step.proofs.Tables.{plain-put, fast-put}
 use borrow.Author.Needs.{needs}
-use Rattle.ghash_whole.proofs.put_tables.Statement.{statement}
-use Rattle.ghash_whole.proofs.put_tables.Tie as tie
+use Rattle.ghash_step.proofs.put_tables.Statement.{statement}
+use Rattle.ghash_step.proofs.put_tables.Tie as tie
 
 enum-told : tie.Need-enum-told
 enum-told c = search needs

@@ -6,9 +6,9 @@ use Prim.Native.Nat.{ℕ}
 use Rattle.ghash_block.specs.Block.{keyOf}
 use Rattle.ghash_block.specs.declared.block.Key.{Key}
 use Rattle.ghash_tables.specs.Table.{TableOf}
-use Rattle.ghash_whole.specs.declared.Path.{Path}
-use Rattle.ghash_whole.specs.declared.Path.the-variants.{Plain, Fast}
-use Rattle.ghash_whole.specs.Path.{Serves, TablesPut}
+use Rattle.ghash_step.specs.declared.Path.{Path}
+use Rattle.ghash_step.specs.declared.Path.the-variants.{Plain, Fast}
+use Rattle.ghash_step.specs.Path.{Serves, TablesPut}
 
 module _ {path : Path} {key : Key} {t t′ : List ℕ} where
   pub plain-put : path ≡ Plain → t′ ≡ t → TablesPut path key t t′

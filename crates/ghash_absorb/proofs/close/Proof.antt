@@ -3,10 +3,10 @@ use mathlib.Core.Path.{refl, sym, ap, _∙_}
 use Rattle.gf128.specs.Hash.{next}
 use Rattle.gf128.proofs.Parts.{part-same, closed-whole, closed-open}
 use Rattle.ghash_block.specs.Block.{valueOf, keyOf}
 use Rattle.ghash_state.specs.State.{partOf}
 use borrow.Author.Needs.{needs}
-use Rattle.ghash_state.proofs.close.Statement.{statement}
-use Rattle.ghash_state.proofs.close.Tie as tie
+use Rattle.ghash_absorb.proofs.close.Statement.{statement}
+use Rattle.ghash_absorb.proofs.close.Tie as tie
 
 returns : tie.Need-returns
 returns c = λ w.
