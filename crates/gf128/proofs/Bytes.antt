@@ -3,18 +3,19 @@
 -- Assumes nothing.
 use mathlib.Core.Path.{_≡_, refl, sym, ap, _∙_}
 use mathlib.Core.List.{List}
-use Prim.Native.Nat.{ℕ, zero, suc, _+_, _-_, _*_, _/_, _%_, _^_, _≤_, _<_}
-use native.Mathlib.Nat.{pow-suc, mod-eq-of-lt, mul-suc}
+use Prim.Native.Nat.{ℕ, suc, _+_, _-_, _*_, _/_, _%_, _^_, _≤_, _<_}
+use native.Mathlib.Nat.{mod-eq-of-lt}
 use native.Mathlib.Numerals.{add-one}
 use native.Mathlib.Omega.{arith}
 use lib.ListN.{length, getD}
 use lib.Seq.{sets, length-sets}
-use lib.Pow.{pow-add, shr-shr, field, mod-mod-pow}
+use lib.Pow.{shr-shr, field, mod-mod-pow}
 use lib.Dec.{leb}
 use borrow.Author.Tests.{le-leb}
 use mathlib.Core.Bool.{Bool, true, false, cond}
 use Rattle.octets.specs.BigEndian.{beAt}
-use Rattle.octets.proofs.BigEndian.{beAt-byte, beAt-sets, length-beBytes, sets-other}
+use Rattle.octets.proofs.BigEndian.{beAt-byte, beAt-sets, bytes-bits, length-beBytes}
+use Rattle.octets.proofs.Stores.{sets-other}
 use Rattle.gf128.specs.Bytes.{blockAt, blockBytes, putBlock}
 use Rattle.gf128.specs.Field.{coeffOf}
 use Rattle.gf128.specs.Places.{CoefficientsAreBits}
@@ -38,11 +39,6 @@ putBlock-other s at v p h = go (leb (at + 16) (length s))
 
 -- ---- a coefficient in document 01's words: bit 7-(k mod 8) of byte k div 8
 
-byte-pow : (d : ℕ) → 256 ^ d ≡ 2 ^ (8 * d)
-byte-pow zero = refl
-byte-pow (suc d) =
-    pow-suc 256 d ∙ ap (λ (x : ℕ). x * 256) (byte-pow d) ∙ sym (pow-add 2 (8 * d) 8) ∙ ap (λ (x : ℕ). 2 ^ x) (sym (mul-suc 8 d))
-
 -- a digit below the eighth is one of the low byte
 low-bit : (x e j : ℕ) → x % 2 ^ (suc e + j) / 2 ^ j % 2 ≡ x / 2 ^ j % 2
 low-bit x e j =
@@ -59,7 +55,7 @@ coefficients-are-bits s h at k l =
     let all : suc i + d ≡ 16 = omega arith in
     let eight : suc (7 - j) + j ≡ 8 = omega arith in
     ap (λ (x : ℕ). u / 2 ^ x % 2) place
-    ∙ ap (λ (x : ℕ). x % 2) (sym (shr-shr u (8 * d) j) ∙ ap (λ (x : ℕ). u / x / 2 ^ j) (sym (byte-pow d)))
+    ∙ ap (λ (x : ℕ). x % 2) (sym (shr-shr u (8 * d) j) ∙ ap (λ (x : ℕ). u / x / 2 ^ j) (sym (bytes-bits d)))
     ∙ sym (low-bit (u / 256 ^ d) (7 - j) j)
     ∙ ap (λ (x : ℕ). u / 256 ^ d % 2 ^ x / 2 ^ j % 2) eight
     ∙ ap (λ (x : ℕ). x / 2 ^ j % 2) (ap (λ (x : ℕ). beAt s at x / 256 ^ d % 256) (sym all) ∙ beAt-byte s h at i d)

@@ -18,6 +18,5 @@ pub mod Running
 pub mod Squaring
 pub mod Standard
 pub mod StepBack
-pub mod Stores
 pub mod Tests
 pub mod Xor

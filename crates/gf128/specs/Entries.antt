@@ -9,6 +9,7 @@ use lib.ListN.{length}
 use Rattle.gf128.specs.Bytes.{blockAt, blockBytes}
 use Rattle.gf128.specs.Field.{product}
 use Rattle.gf128.specs.Hash.{ghash, limit}
+use Rattle.gf128.specs.Running.{State, finishRefusal, afterFinish, finishBlock}
 
 -- 9: a key or block not 16 bytes long
 abbrev pub productRefusal : List ℕ → List ℕ → ℕ
@@ -52,3 +53,13 @@ hashNumber key a c out = outNumber out (hashRefusal key a c)
 
 abbrev pub hashOut : List ℕ → List ℕ → List ℕ → List ℕ → List ℕ
 hashOut key a c out = outBytes out (hashBlock key a c)
+
+-- finishing a running hash into `out`: the number, the running hash afterwards, and `out` afterwards
+abbrev pub finishNumber : List ℕ → State → List ℕ → ℕ
+finishNumber key s out = outNumber out (finishRefusal key s)
+
+abbrev pub finishState : List ℕ → State → List ℕ → State
+finishState key s out = cond (eqb (length out) 16) (afterFinish key s) s
+
+abbrev pub finishOut : List ℕ → State → List ℕ → List ℕ
+finishOut key s out = outBytes out (finishBlock key s)

@@ -1,6 +1,6 @@
 // Blocks and keys, and a block's degree.
 ghost use mathlib.Core.Path.{_≡_};
-ghost use Prim.Native.Nat.{_+_, _*_, _^_};
+ghost use Prim.Native.Nat.{_^_};
 ghost use lib.Bits.{bitXor};
 ghost use Rattle.ghash_block.specs.Block.{valueOf, keyOf};
 ghost use Rattle.gf128.specs.Degree.{degreeOf, degreeRefusal};

@@ -7,21 +7,10 @@ use mathlib.Core.Bool.{cond}
 use mathlib.Core.List.{List}
 use lib.Dec.{eqb}
 use lib.ListN.{length}
-use Rattle.gf128.specs.Entries.{outNumber, outBytes}
-use Rattle.gf128.specs.Running.{State, finishRefusal, afterFinish, finishBlock}
+use Rattle.gf128.specs.Entries.{finishNumber, finishState, finishOut}
 use Rattle.ghash_state.specs.State.{view}
 use Rattle.ghash_running.specs.Answers.{Updates}
 use Rattle.ghash_state.specs.declared.Running.{Running}
-
--- finishing into `out`: the number, the running hash afterwards, and `out` afterwards
-abbrev pub finishNumber : List ℕ → State → List ℕ → ℕ
-finishNumber key s out = outNumber out (finishRefusal key s)
-
-abbrev pub finishState : List ℕ → State → List ℕ → State
-finishState key s out = cond (eqb (length out) 16) (afterFinish key s) s
-
-abbrev pub finishOut : List ℕ → State → List ℕ → List ℕ
-finishOut key s out = outBytes out (finishBlock key s)
 
 abbrev pub FinishesInto : List ℕ → Running → List ℕ → ℕ → Running → List ℕ → Type 0
 FinishesInto key s out n t out′ =

@@ -1,6 +1,6 @@
 // The plain product: document 01's definition, bit by bit.
 ghost use mathlib.Core.Path.{_≡_};
-ghost use Prim.Native.Nat.{_<_, _≤_};
+ghost use Prim.Native.Nat.{_<_};
 ghost use Rattle.ghash_block.specs.Answer.{ProductAnswer};
 ghost use Rattle.ghash_block.specs.Block.{valueOf, keyOf};
 ghost use Rattle.gf128.specs.Field.{coefficient, timesX, product};

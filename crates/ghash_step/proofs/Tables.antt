@@ -1,6 +1,6 @@
 -- How tables are put for a path, and that they then serve it.
 -- Assumes nothing.
-use mathlib.Core.Path.{_≡_, refl, sym, subst}
+use mathlib.Core.Path.{_≡_, sym, subst}
 use mathlib.Core.List.{List}
 use Prim.Native.Nat.{ℕ}
 use Rattle.ghash_block.specs.Block.{keyOf}

@@ -16,9 +16,9 @@ use lib.Seq.{sets, length-sets}
 use Rattle.gf128.specs.Field.{timesX, shiftedOf, reduction, shifted, product}
 use Rattle.gf128.proofs.Nibbles.{shiftedOf-multiple, productOf-place, productOf-digits}
 use Rattle.gf128.proofs.Places.{shiftedOf-add, shiftedOf-xor, productOf-zero-left}
-use Rattle.gf128.proofs.Stores.{sets-at, sets-below, sets-above}
 use Rattle.gf128.proofs.Tests.{and-left, and-right, allBelow, allBelow-at}
 use Rattle.gf128.proofs.Xor.{xor-assoc, xor-shl}
+use Rattle.octets.proofs.Stores.{sets-at, sets-other}
 use Rattle.ghash_block.proofs.Halves.{halves-xor}
 use Rattle.ghash_block.specs.declared.block.Block.{Block}
 use Rattle.ghash_block.specs.Block.{valueOf}
@@ -110,7 +110,7 @@ module _ (h : ℕ) (b h1 h2 : Block) (hb : b .1 < 2 ^ 64) (l1 : h1 .1 < 2 ^ 64) 
     old-pair : (i : ℕ) → i + 1 < p → pairAt after i ≡ pairAt t' i
     unfolding after
     old-pair i l =
-        ap₂ (λ (x y : ℕ). x * 2 ^ 64 + y) (sets-below t' p (fourOf b h1 h2) i (omega arith)) (sets-below t' p (fourOf b h1 h2) (i + 1) l)
+        ap₂ (λ (x y : ℕ). x * 2 ^ 64 + y) (sets-other t' p (fourOf b h1 h2) i (λ w. omega arith)) (sets-other t' p (fourOf b h1 h2) (i + 1) (λ w. omega arith))
 
     new-pair : (r : ℕ) → r < 4 → pairAt after (p + 2 * r) ≡ pairAt (fourOf b h1 h2) (2 * r)
     unfolding after
@@ -133,8 +133,8 @@ module _ (h : ℕ) (b h1 h2 : Block) (hb : b .1 < 2 ^ 64) (l1 : h1 .1 < 2 ^ 64) 
     unfolding after
     four-more t'' stored = rw stored record {
       entry = entries;
-      below = λ i l. sets-below t' p (fourOf b h1 h2) i (omega arith) ∙ m .below i l;
-      above = λ i l. sets-above t' p (fourOf b h1 h2) i (omega arith) ∙ m .above i (omega arith);
+      below = λ i l. sets-other t' p (fourOf b h1 h2) i (λ w. omega arith) ∙ m .below i l;
+      above = λ i l. sets-other t' p (fourOf b h1 h2) i (λ w. omega arith) ∙ m .above i (omega arith);
     }
 
 -- the sixteen, four at a time: 8, 4, 2 and 1 are h times x, no to three times; 12 is a sum, and so are the others

@@ -1,3 +1,2 @@
 pub mod Filled
 pub mod Numbers
-pub mod Stores

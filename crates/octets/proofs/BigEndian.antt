@@ -1,23 +1,31 @@
 -- Numbers and their bytes, the highest first: a run of bytes read or written in two parts is the run of both.
--- Main results: `beAt-split`, `beBytes-split`, `sets-split`, `beAt-lt`, `beAt-past`, `beAt-byte`, `beAt-beBytes`, `beAt-sets`.
+-- Main results: `beAt-split`, `beBytes-split`, `sets-split`, `beAt-lt`, `beAt-past`, `beAt-byte`, `beAt-beBytes`, `beAt-sets`, `bytes-bits`.
 -- Assumes nothing.
 use mathlib.Core.Path.{_≡_, refl, sym, ap, ap₂, _∙_}
 use mathlib.Core.List.{List, [], _∷_, _++_, append-assoc, append-nil}
 use Prim.Native.Nat.{ℕ, zero, suc, _+_, _*_, _/_, _%_, _^_, _≤_, _<_, suc-le-suc}
-use native.Mathlib.Nat.{zero-add, add-zero, add-suc, suc-add, add-assoc, add-mul, mul-one, mul-assoc, pow-suc, pow-succ', div-one, div-div-eq-div-mul, mod-lt, zero-lt-suc, one-le-pow, le-trans, le-add-right, le-refl, le-of-lt, ne-of-lt, mod-one}
+use native.Mathlib.Nat.{zero-add, add-zero, add-suc, add-assoc, add-mul, mul-one, mul-suc, mul-assoc, pow-suc, pow-succ', div-one, div-div-eq-div-mul, mod-lt, zero-lt-suc, one-le-pow, le-trans, le-add-right, le-refl, le-of-lt, ne-of-lt, mod-one}
 use native.Mathlib.Numerals.{add-one}
 use native.Mathlib.Omega.{arith}
 use lib.Arith.{digits-lt, digits-div, digits-mod, mod-mul}
 use lib.ListN.{length, getD, set, length-append, List·getD-append, List·getD-eq-default}
+use lib.Pow.{pow-add}
 use lib.Seq.{getD-append-seam, sets, lt-length-sets, getD-set-same, getD-set-other}
 use Rattle.octets.specs.BigEndian.{beAt, beBytes}
 use Rattle.octets.specs.Bytes.{AreBytes}
+use Rattle.octets.proofs.Stores.{sets-append}
 
 -- the bytes inside are enough, as past the end stand zeros
 pub bytes-inside : (s : List ℕ) → ((i : ℕ) → i < length s → getD s i 0 < 256) → AreBytes s
 bytes-inside [] b i = zero-lt-suc 255
 bytes-inside (x ∷ s) b zero = b 0 (zero-lt-suc (length s))
 bytes-inside (x ∷ s) b (suc i) = bytes-inside s (λ j h. b (suc j) (suc-le-suc h)) i
+
+-- n bytes are 8n bits
+pub bytes-bits : (n : ℕ) → 256 ^ n ≡ 2 ^ (8 * n)
+bytes-bits zero = refl
+bytes-bits (suc n) =
+    pow-suc 256 n ∙ ap (λ (x : ℕ). x * 256) (bytes-bits n) ∙ sym (ap (λ (k : ℕ). 2 ^ k) (mul-suc 8 n) ∙ pow-add 2 (8 * n) 8)
 
 -- ---- reading
 
@@ -117,12 +125,6 @@ beAt-beBytes (suc n) v =
 
 -- ---- writing
 
-pub sets-append : (l : List ℕ) (i : ℕ) (xs ys : List ℕ) → sets (sets l i xs) (i + length xs) ys ≡ sets l i (xs ++ ys)
-sets-append l i [] ys = ap (λ (p : ℕ). sets l p ys) (add-zero i)
-sets-append l i (x ∷ xs) ys =
-    ap (λ (p : ℕ). sets (sets (set l i x) (suc i) xs) p ys) (add-suc i (length xs) ∙ sym (suc-add i (length xs)))
-    ∙ sets-append (set l i x) (suc i) xs ys
-
 -- the high j bytes, then the low k
 pub sets-split : (l : List ℕ) (at j k v : ℕ)
     → sets (sets l at (beBytes j (v / 256 ^ k))) (at + j) (beBytes k v) ≡ sets l at (beBytes (j + k) v)
@@ -139,12 +141,6 @@ sets-join l at j k a r h =
     ap₂ (λ (p : ℕ) (q : List ℕ). sets (sets l at (beBytes j p)) (at + j) q) (sym (digits-div a h))
     (ap (beBytes k) (sym (digits-mod a h)) ∙ beBytes-mod k v)
     ∙ sets-split l at j k v
-
--- a write changes the bytes written alone
-pub sets-other : (l : List ℕ) (i : ℕ) (vs : List ℕ) (p : ℕ) → ((i ≤ p) × (p < i + length vs) → ⊥) → getD (sets l i vs) p 0 ≡ getD l p 0
-sets-other l i [] p h = refl
-sets-other l i (v ∷ vs) p h =
-    sets-other (set l i v) (suc i) vs p (λ w. h (omega arith, omega arith)) ∙ getD-set-other l i p v 0 (λ e. h (omega arith, omega arith))
 
 -- ---- what was written is read again
 

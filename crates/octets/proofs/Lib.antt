@@ -1,2 +1,3 @@
 pub mod BigEndian
 pub mod LittleEndian
+pub mod Stores

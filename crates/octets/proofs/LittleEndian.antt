@@ -1,10 +1,11 @@
 -- Numbers and their bytes, the lowest first: a read and a write by one more byte, past the end, their bounds, and a write read again.
--- Main results: `read-lt`, `readLe-same`, `writeLe-other`, `writeLe-read`.
+-- Main results: `read-lt`, `readLe-same`, `writeLe-other`, `writeLe-read`, `writeLe-bytes`.
 -- Assumes nothing.
-use mathlib.Core.Path.{_≡_, refl, sym, ap, ap₂, _∙_}
+use mathlib.Core.Path.{_≡_, refl, sym, ap, ap₂, subst, _∙_}
 use mathlib.Core.List.{List}
 use Prim.Native.Nat.{ℕ, zero, suc, _+_, _-_, _*_, _/_, _%_, _^_, _<_, _≤_}
-use native.Mathlib.Nat.{zero-lt-suc, lt-of-lt-of-le, le-of-eq, pow-suc, mod-one}
+use native.Mathlib.Decide.{decLe, ℕ-discrete}
+use native.Mathlib.Nat.{zero-lt-suc, lt-of-lt-of-le, lt-of-not-le, le-of-eq, mod-lt, pow-suc, mod-one}
 use native.Mathlib.Omega.{arith}
 use lib.Arith.{digits-lt}
 use lib.ListN.{length, getD, set, length-set, List·getD-eq-default}
@@ -84,3 +85,19 @@ writeLe-read (suc n) s at v h =
     ap₂ (λ (x y : ℕ). x * 256 + y) (writeLe-read n rest (at + 1) (v / 256) (omega arith))
     (writeLe-other n rest (at + 1) (v / 256) at (λ w. omega arith) ∙ getD-set-same s at (v % 256) 0 (omega arith))
     ∙ sym (last-byte n v)
+
+-- bytes stay bytes
+pub set-bytes : (g : List ℕ) (i b : ℕ) → b < 256 → AreBytes g → AreBytes (set g i b)
+set-bytes g i b hb h p = go (ℕ-discrete p i) (decLe (length g) i)
+  where
+    go : Dec (p ≡ i) → Dec (length g ≤ i) → getD (set g i b) p 0 < 256
+    go (no n) d = subst (λ (v : ℕ). v < 256) (sym (getD-set-other g i p b 0 n)) (h p)
+    go (yes e) (yes l) = subst (λ (f : List ℕ). getD f p 0 < 256) (sym (set-out g i b l)) (h p)
+    go (yes e) (no n) =
+        subst (λ (q : ℕ). getD (set g i b) q 0 < 256) (sym e) (subst (λ (v : ℕ). v < 256) (sym (getD-set-same g i b 0 (lt-of-not-le n))) hb)
+
+pub writeLe-bytes : (n : ℕ) (g : List ℕ) (at v : ℕ) → AreBytes g → AreBytes (writeLe n g at v)
+unfolding writeLe
+writeLe-bytes zero g at v h = h
+writeLe-bytes (suc n) g at v h =
+    writeLe-bytes n (set g at (v % 256)) (at + 1) (v / 256) (set-bytes g at (v % 256) (mod-lt v (zero-lt-suc 255)) h)

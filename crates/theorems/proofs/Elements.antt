@@ -4,13 +4,13 @@
 use mathlib.Core.Bool.{Bool, true, false, cond, _||_}
 use mathlib.Core.List.{List}
 use mathlib.Core.Path.{_≡_, refl, sym, ap, ap₂, subst, _∙_}
-use Prim.Native.Nat.{ℕ, zero, suc, _+_, _*_, _/_, _%_, _^_, _<_, _≤_}
-use native.Mathlib.Nat.{mod-lt, mod-eq-of-lt, mul-le-mul-right, one-mul, suc-mul, pow-suc, mul-suc}
+use Prim.Native.Nat.{ℕ, _+_, _*_, _/_, _%_, _^_, _<_, _≤_}
+use native.Mathlib.Nat.{mod-lt, mod-eq-of-lt, mul-le-mul-right, one-mul, suc-mul}
 use native.Mathlib.Omega.{arith}
 use borrow.Author.Tests.{eqb-false}
 use lib.Dec.{eqb}
 use lib.ListN.{length}
-use lib.Pow.{pow-add, pow-pos}
+use lib.Pow.{pow-pos}
 use Rattle.vector_registers.specs.declared.settings.Settings.{Settings}
 use Rattle.vector_word.specs.declared.Fields.{Fields}
 use Rattle.vector_registers.specs.Settings.{registerBytes, groupRegisters}
@@ -23,6 +23,7 @@ use Rattle.octets.specs.LittleEndian.{readLe, writeLe}
 use Rattle.vector_element.specs.Element.{elementAt, maskBit}
 use Rattle.vector_clmul.specs.Carryless.{active, element, multiplierOf, carrylessResult, carrylessStep, carryless}
 use Rattle.theorems.specs.Execution.{Done}
+use Rattle.octets.proofs.BigEndian.{bytes-bits}
 use Rattle.octets.proofs.LittleEndian.{readLe-same, writeLe-length, writeLe-other, writeLe-read}
 use Rattle.theorems.proofs.Fold.{Except, Does, fold-done}
 use Rattle.theorems.proofs.Registers.{Aligned, Ready, element-fits, unread}
@@ -31,12 +32,6 @@ use Rattle.theorems.proofs.Registers.{Aligned, Ready, element-fits, unr
 abbrev pub AlignedMultiplier : Multiplier → Fields → Settings → Type 0
 AlignedMultiplier Vs1 f s = Aligned s (f .vs1)
 AlignedMultiplier (Scalar x) f s = Unit {0}
-
--- n bytes are 8n bits
-pub bytes-bits : (n : ℕ) → 256 ^ n ≡ 2 ^ (8 * n)
-bytes-bits zero = refl
-bytes-bits (suc n) =
-    pow-suc 256 n ∙ ap (λ (x : ℕ). x * 256) (bytes-bits n) ∙ sym (ap (λ (k : ℕ). 2 ^ k) (mul-suc 8 n) ∙ pow-add 2 (8 * n) 8)
 
 half-lt : (which : Half) (sew p : ℕ) → halfOf which sew p < 2 ^ sew
 half-lt Low sew p = mod-lt p (pow-pos sew)

@@ -5,17 +5,18 @@ use mathlib.Core.Bool.{Bool, true, false, cond, not, _&&_, _||_}
 use mathlib.Core.List.{List, [], _∷_, _++_}
 use Prim.Native.Nat.{ℕ, _+_, _-_, _/_}
 use lib.Dec.{T, eqb, ltb, eqb→eq}
-use lib.ListN.{length, getD}
+use lib.ListN.{length, getD, replicate}
 use Rattle.octets.specs.BigEndian.{beAt, beBytes}
 use Rattle.gf128.specs.Bytes.{putBlock}
 use Rattle.gf128.specs.Degree.{highest, degreeOf, degreeRefusal, degreeNumber, degreePlace}
 use Rattle.gf128.specs.Field.{coeffOf, product}
 use Rattle.gf128.specs.Hash.{limit}
-use Rattle.gf128.specs.Running.{State, malformed}
+use Rattle.gf128.specs.Entries.{outBytes, finishNumber, finishState}
+use Rattle.gf128.specs.Running.{State, malformed, finished}
 use Rattle.gf128.proofs.Computed.{quickXOf, quickSteps, quickProduct, quick-product}
 use Rattle.gf128.proofs.Tests.{and-left, and-right}
 use Rattle.vector_registers.specs.declared.settings.Settings.{Settings}
-use Rattle.vector_group.specs.Group.{groupRefusal}
+use Rattle.vector_group.specs.Group.{groupRefusal, partStart, partLength}
 use Rattle.vector_word.specs.declared.Fields.{Fields}
 use Rattle.vector_kind.specs.declared.Kind.the-variants.{VclmulVv, VclmulVx, VclmulhVv, VclmulhVx, VghshVv, VghshVs, VgmulVv, VgmulVs}
 use Rattle.vector_word.specs.declared.Word.{Word}
@@ -31,7 +32,7 @@ use Rattle.vector_ghash.specs.declared.GhashMultiplier.{GhashMultiplier}
 use Rattle.vector_ghash.specs.declared.GhashMultiplier.the-variants.{YXorX, YAlone}
 use Rattle.vector_ghash.specs.GhashWords.{group, multiplierOf, vvStep, vsStep, ghashVv, ghashVs}
 use Rattle.vector_execute.specs.Execute.{doneKnown, done, executed, vstartAfter}
-use Rattle.theorems.specs.Examples.{Example, call, known, word, question, times, hash, backward, out, state, feeds, degree, degreeOfBytes, back, execution, running, file, table, Holds, AllHold, ExamplesHold}
+use Rattle.theorems.specs.Examples.{Example, call, known, word, question, part, times, hash, backward, out, written, state, feeds, finishes, degree, degreeOfBytes, back, execution, running, file, table, Holds, AllHold, ExamplesHold}
 use Rattle.theorems.proofs.Marked.{same, place, numbersOf, goesBack, same-at, is-word, goes-back}
 
 -- ---- a call that computes fast: the executor's definition over the product, which is then the quick one
@@ -95,6 +96,12 @@ feedNumbers s k n =
     ∷ cond (not (eqb k 16)) 9 (cond (malformed s || eqb (s .phase) 2) 10 0)
     ∷ []
 
+-- the number of a finish, and the phase afterwards
+abbrev finishNumbers : ℕ → ℕ → ℕ → List ℕ
+finishNumbers phase k n =
+    let s = running 0 phase 0 0 0 0 in
+    finishNumber (replicate k 0) s (replicate n 0xA5) ∷ finishState (replicate k 0) s (replicate n 0xA5) .phase ∷ []
+
 -- ---- the test
 
 numberOf : Bool → ℕ
@@ -106,12 +113,16 @@ right (call fileLength w s number) = eqb (refusalOf fileLength w s) number
 right (known kind vm vd vs2 vs1 s number) = eqb (refusalOfKnown kind (record { vm = vm; vs2 = vs2; vs1 = vs1; vd = vd }) s) number
 right (word w kind vm vd vs2 vs1) = same (numbersOf (decode w)) (place kind ∷ vm ∷ vd ∷ vs2 ∷ vs1 ∷ [])
 right (question vlen fileLength lmul register number) = eqb (groupRefusal vlen fileLength lmul register) number
+right (part vlen fileLength lmul register start bytes) =
+    same (partStart vlen fileLength lmul register ∷ partLength vlen fileLength lmul register ∷ []) (start ∷ bytes ∷ [])
 right (times k b number) = eqb (timesBy k b) number
 right (hash k m n number) = eqb (hashBy k m n) number
 right (backward k b l number) = eqb (backwardBy k b l) number
 right (out n answer number) = eqb (outBy answer n) number
+right (written before v after) = same (outBytes before v) after
 right (state phase countA countC place byte bad) = eqb (numberOf (malformed (running 0 phase countA countC place byte))) (numberOf bad)
 right (feeds phase countA countC k n a c finish) = same (feedNumbers (running 0 phase countA countC 0 0) k n) (a ∷ c ∷ finish ∷ [])
+right (finishes phase k n number after) = same (finishNumbers phase k n) (number ∷ after ∷ [])
 right (degree u number at) = same (degreeRefusal u ∷ degreeOf u ∷ []) (number ∷ at ∷ [])
 right (degreeOfBytes block number at) = same (degreeNumber block ∷ degreePlace block ∷ []) (number ∷ at ∷ [])
 right (back h x y1 number block) = goesBack (eqb h 0) (eqb y1 0) h x y1 number block
@@ -140,16 +151,23 @@ shows (call fileLength w s number) t = eqb→eq (refusalOf fileLength w s) numbe
 shows (known kind vm vd vs2 vs1 s number) t = eqb→eq (refusalOfKnown kind (record { vm = vm; vs2 = vs2; vs1 = vs1; vd = vd }) s) number t
 shows (word w kind vm vd vs2 vs1) t = is-word (decode w) kind vm vd vs2 vs1 t
 shows (question vlen fileLength lmul register number) t = eqb→eq (groupRefusal vlen fileLength lmul register) number t
+shows (part vlen fileLength lmul register start bytes) t =
+    let e = same-at (partStart vlen fileLength lmul register ∷ partLength vlen fileLength lmul register ∷ []) (start ∷ bytes ∷ []) t in
+    (e 0, e 1)
 shows (times k b number) t = λ key block ek eb. ap₂ timesBy ek eb ∙ eqb→eq (timesBy k b) number t
 shows (hash k m n number) t = λ key a c ek ea ec. (λ i. hashBy (ek i) (ea i) (ec i)) ∙ eqb→eq (hashBy k m n) number t
 shows (backward k b l number) t = λ key block later ek eb el. (λ i. backwardBy (ek i) (eb i) (el i)) ∙ eqb→eq (backwardBy k b l) number t
 shows (out n answer number) t = λ bytes e. ap (outBy answer) e ∙ eqb→eq (outBy answer n) number t
+shows (written before v after) t = same-list (outBytes before v) after t
 shows (state phase countA countC place byte bad) t = λ y. same-flag (malformed (running 0 phase countA countC place byte)) bad t
 shows (feeds phase countA countC k n a c finish) t = λ y key piece ek en.
     let e : (i : ℕ) → getD (feedNumbers (running y phase countA countC 0 0) (length key) (length piece)) i 0 ≡ getD (a ∷ c ∷ finish ∷ []) i 0 =
     λ i. (λ j. getD (feedNumbers (running y phase countA countC 0 0) (ek j) (en j)) i 0)
     ∙ same-at (feedNumbers (running y phase countA countC 0 0) k n) (a ∷ c ∷ finish ∷ []) t i in
     (e 0, e 1, e 2)
+shows (finishes phase k n number after) t =
+    let e = same-at (finishNumbers phase k n) (number ∷ after ∷ []) t in
+    (e 0, e 1)
 shows (degree u number at) t =
     let e = same-at (degreeRefusal u ∷ degreeOf u ∷ []) (number ∷ at ∷ []) t in
     (e 0, e 1)
@@ -177,5 +195,5 @@ all-show [] t = tt
 all-show (e ∷ es) t = (shows e (and-left (right e) (allRight es) t), all-show es (and-right (right e) (allRight es) t))
 
 pub examples : ExamplesHold
-unfolding table allRight right same place numbersOf goesBack decode refusalOf refusalOfKnown groupRefusal numberOf file quickXOf quickSteps quickProduct beAt beBytes highest degreeOf coeffOf executedBy doneBy ghashBy steps clmul clmul64 readLe writeLe maskBit carrylessResult carrylessStep carryless
+unfolding table allRight right same finished place numbersOf goesBack decode refusalOf refusalOfKnown groupRefusal numberOf file quickXOf quickSteps quickProduct beAt beBytes highest degreeOf coeffOf executedBy doneBy ghashBy steps clmul clmul64 readLe writeLe maskBit carrylessResult carrylessStep carryless
 examples = record { rows = refl; all = all-show table tt }

@@ -6,21 +6,20 @@ use mathlib.Core.Bool.{Bool, true, false, cond}
 use mathlib.Core.List.{List}
 use mathlib.Core.Path.{_≡_, refl, sym, ap, ap₂, subst, _∙_}
 use Prim.Native.Nat.{ℕ, zero, suc, _+_, _-_, _*_, _/_, _%_, _^_, _<_, _≤_, zero-le}
-use native.Mathlib.Decide.{decLe, ℕ-discrete}
-use native.Mathlib.Nat.{div-eq-of-lt, zero-mod, mod-lt, mul-comm, mul-div-mul-right, zero-div, sub-zero, mul-zero, le-of-lt, le-of-eq, le-refl, mod-eq-of-lt, lt-of-not-le, zero-add, zero-lt-suc}
+use native.Mathlib.Nat.{div-eq-of-lt, zero-mod, mod-lt, mul-comm, mul-div-mul-right, zero-div, sub-zero, mul-zero, le-of-lt, le-of-eq, le-refl, mod-eq-of-lt, zero-add}
 use native.Mathlib.Omega.{arith}
 use lib.Bits.{bitXor, xor-mod, xor-shr}
 use borrow.Author.Tests.{le-leb}
 use lib.Dec.{eqb}
-use lib.ListN.{length, getD, set}
+use lib.ListN.{length}
 use lib.Pow.{pow-add, pow-pos, shr-mod}
-use lib.Seq.{sets, set-out, getD-set-same, getD-set-other}
+use lib.Seq.{sets}
 use Rattle.gf128.specs.Field.{product}
 use Rattle.gf128.specs.Bytes.{blockBytes, putBlock}
 use Rattle.octets.specs.Bytes.{AreBytes}
 use Rattle.octets.specs.LittleEndian.{readLe, writeLe}
-use Rattle.octets.proofs.BigEndian.{beAt-lt}
-use Rattle.octets.proofs.LittleEndian.{read-lt, writeLe-length}
+use Rattle.octets.proofs.BigEndian.{beAt-lt, bytes-bits}
+use Rattle.octets.proofs.LittleEndian.{read-lt, writeLe-length, writeLe-bytes}
 use Rattle.gf128.proofs.Places.{digit-map}
 use Rattle.vector_registers.specs.declared.settings.Settings.{Settings}
 use Rattle.vector_registers.specs.Settings.{registerBytes}
@@ -50,7 +49,6 @@ use Rattle.vector_execute.specs.Execute.{doneKnown, done, executed}
 use Rattle.vector_execute.proofs.Admitted.{Admitted, admitted-as, performed}
 use Rattle.theorems.specs.Execution.{unitOf, resultOf}
 use Rattle.theorems.specs.Pseudocode.{_!_, _xor_, shl, shr, turns, foreach, brev8, reversed, «get_velem», «set_velem», «X», «zext_or_truncate_to_sew», clmul, clmulh, Suffix, vv, vx, ifVv, VCLMUL, VCLMULH, EGW, multiplied, VGHSH, VGHSHVS, VGMUL, VGMULVV, pseudocode, FollowsPseudocode, widthOf, given, ElementsFollowPseudocode}
-use Rattle.theorems.proofs.Elements.{bytes-bits}
 use Rattle.theorems.proofs.Execution.{every-unit}
 use Rattle.theorems.proofs.Places.{sew32, settings, sews, vd-of}
 use Rattle.theorems.proofs.Registers.{Aligned, Ready, Numbers, numbers, group-fits}
@@ -129,22 +127,6 @@ module _ (file : List ℕ) (S B : ℕ → List ℕ → List ℕ) (from to : ℕ)
 
   pub same-loops : Kept file file → (steps S (to - from) from file ≡ foreach from to B file) × Kept file (foreach from to B file)
   same-loops k = loops (to - from) from file (le-refl from) refl k
-
--- bytes stay bytes
-set-bytes : (g : List ℕ) (i b : ℕ) → b < 256 → AreBytes g → AreBytes (set g i b)
-set-bytes g i b hb h p = go (ℕ-discrete p i) (decLe (length g) i)
-  where
-    go : Dec (p ≡ i) → Dec (length g ≤ i) → getD (set g i b) p 0 < 256
-    go (no n) d = subst (λ (v : ℕ). v < 256) (sym (getD-set-other g i p b 0 n)) (h p)
-    go (yes e) (yes l) = subst (λ (f : List ℕ). getD f p 0 < 256) (sym (set-out g i b l)) (h p)
-    go (yes e) (no n) =
-        subst (λ (q : ℕ). getD (set g i b) q 0 < 256) (sym e) (subst (λ (v : ℕ). v < 256) (sym (getD-set-same g i b 0 (lt-of-not-le n))) hb)
-
-writeLe-bytes : (n : ℕ) (g : List ℕ) (at v : ℕ) → AreBytes g → AreBytes (writeLe n g at v)
-unfolding writeLe
-writeLe-bytes zero g at v h = h
-writeLe-bytes (suc n) g at v h =
-    writeLe-bytes n (set g at (v % 256)) (at + 1) (v / 256) (set-bytes g at (v % 256) (mod-lt v (zero-lt-suc 255)) h)
 
 set-keeps : (file g : List ℕ) (n at v : ℕ) → Kept file g → Kept file (writeLe n g at v)
 set-keeps file g n at v k = record { same-length = writeLe-length n g at v ∙ k .same-length; bytes = writeLe-bytes n g at v (k .bytes) }

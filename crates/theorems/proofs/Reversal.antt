@@ -18,12 +18,11 @@ use lib.Seq.{sets}
 use Rattle.octets.specs.BigEndian.{beAt, beBytes}
 use Rattle.octets.specs.Bytes.{AreBytes}
 use Rattle.gf128.specs.Field.{coeffOf, timesXOf, shiftedOf, sumOf, productOf, product, reduction}
-use Rattle.octets.proofs.BigEndian.{beAt-split, beAt-lt, sets-split}
+use Rattle.octets.proofs.BigEndian.{beAt-split, beAt-lt, sets-split, bytes-bits}
 use Rattle.gf128.proofs.Places.{digit-ind, digit-map, mod2-lt, coeffOf-lt, shiftedOf-lt, reduction-lt}
 use Rattle.gf128.proofs.Xor.{xor-half, xor-odd}
 use Rattle.octets.specs.LittleEndian.{readLe, writeLe}
 use Rattle.theorems.specs.Pseudocode.{_!_, «bit_to_bool», _xor_, shl, turns, reversed, brev8Of, ZH, multiplied}
-use Rattle.theorems.proofs.Elements.{bytes-bits}
 
 -- ---- loops
 

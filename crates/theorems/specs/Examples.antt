@@ -9,11 +9,11 @@ use lib.ListN.{length, set, replicate}
 use lib.Seq.{sets}
 use Rattle.gf128.specs.Bytes.{blockBytes}
 use Rattle.gf128.specs.Degree.{degreeOf, degreeRefusal, degreeNumber, degreePlace}
-use Rattle.gf128.specs.Entries.{productRefusal, hashRefusal, stepBackRefusal, outNumber}
+use Rattle.gf128.specs.Entries.{productRefusal, hashRefusal, stepBackRefusal, outNumber, outBytes, finishNumber, finishState}
 use Rattle.gf128.specs.Running.{State, noBytes, malformed, feedARefusal, feedCRefusal, finishRefusal}
 use Rattle.gf128.specs.StepBack.{StepsBack}
 use Rattle.vector_registers.specs.declared.settings.Settings.{Settings}
-use Rattle.vector_group.specs.Group.{groupRefusal}
+use Rattle.vector_group.specs.Group.{groupRefusal, partStart, partLength}
 use Rattle.vector_kind.specs.declared.Kind.{Kind}
 use Rattle.vector_kind.specs.declared.Kind.the-variants.{VclmulVv, VclmulVx, VclmulhVv, VclmulhVx, VghshVv, VghshVs, VgmulVv, VgmulVs}
 use Rattle.vector_word.specs.declared.Word.the-variants.{Known}
@@ -43,6 +43,8 @@ pub data Example : Type 0 where
   word : (w : ℕ) → (kind : Kind) → (vm vd vs2 vs1 : ℕ) → Example
   -- the question for a register group
   question : (vlen fileLength lmul register number : ℕ) → Example
+  -- the same question, and the start and the length of the part that is handed back
+  part : (vlen fileLength lmul register start bytes : ℕ) → Example
   -- the lengths of a key and of a block, and the product's number
   times : (key block number : ℕ) → Example
   -- the lengths of a key, of A and of C, and the number of the whole hash
@@ -51,11 +53,15 @@ pub data Example : Type 0 where
   backward : (key block later number : ℕ) → Example
   -- the length of an `out`, the number that the call would answer, and the one that it answers
   out : (length answer number : ℕ) → Example
+  -- an `out`, a block, and the `out` that it is written to
+  written : (before : List ℕ) → (v : ℕ) → (after : List ℕ) → Example
   -- a running hash, and whether it is malformed
   state : (phase countA countC place byte : ℕ) → (bad : Bool) → Example
   -- a running hash with no open byte but zeros, the lengths of a key and of a piece, and the numbers of a piece of A, of a piece of C and of
   -- the finish
   feeds : (phase countA countC key piece a c finish : ℕ) → Example
+  -- a running hash in a phase, with counts of 0, the lengths of a key and of an `out`, the number of the finish, and the phase afterwards
+  finishes : (phase key out number after : ℕ) → Example
   -- a block, and the number and the place that are its degree's
   degree : (u number place : ℕ) → Example
   -- a block given as bytes, and the number and the place that are its degree's
@@ -71,16 +77,21 @@ Holds (call fileLength w s number) = refusalOf fileLength w s ≡ number
 Holds (known kind vm vd vs2 vs1 s number) = refusalOfKnown kind (record { vm = vm; vs2 = vs2; vs1 = vs1; vd = vd }) s ≡ number
 Holds (word w kind vm vd vs2 vs1) = decode w ≡ Known kind (record { vm = vm; vs2 = vs2; vs1 = vs1; vd = vd })
 Holds (question vlen fileLength lmul register number) = groupRefusal vlen fileLength lmul register ≡ number
+Holds (part vlen fileLength lmul register start bytes) = (partStart vlen fileLength lmul register ≡ start) × (partLength vlen fileLength lmul register ≡ bytes)
 Holds (times k b number) = (key block : List ℕ) → length key ≡ k → length block ≡ b → productRefusal key block ≡ number
 Holds (hash k m n number) = (key a c : List ℕ) → length key ≡ k → length a ≡ m → length c ≡ n → hashRefusal key a c ≡ number
 Holds (backward k b l number) = (key block later : List ℕ) → length key ≡ k → length block ≡ b → length later ≡ l → stepBackRefusal key block later ≡ number
 Holds (out n answer number) = (bytes : List ℕ) → length bytes ≡ n → outNumber bytes answer ≡ number
+Holds (written before v after) = outBytes before v ≡ after
 Holds (state phase countA countC place byte bad) = (y : ℕ) → malformed (running y phase countA countC place byte) ≡ bad
 Holds (feeds phase countA countC k n a c finish) =
     (y : ℕ) (key piece : List ℕ) → length key ≡ k → length piece ≡ n
     → (feedARefusal key (running y phase countA countC 0 0) piece ≡ a)
     × (feedCRefusal key (running y phase countA countC 0 0) piece ≡ c)
     × (finishRefusal key (running y phase countA countC 0 0) ≡ finish)
+Holds (finishes phase k n number after) =
+    (finishNumber (replicate k 0) (running 0 phase 0 0 0 0) (replicate n 0xA5) ≡ number)
+    × (finishState (replicate k 0) (running 0 phase 0 0 0 0) (replicate n 0xA5) .phase ≡ after)
 Holds (degree u number place) = (degreeRefusal u ≡ number) × (degreeOf u ≡ place)
 Holds (degreeOfBytes block number place) = (degreeNumber block ≡ number) × (degreePlace block ≡ place)
 Holds (back h x y1 number block) = StepsBack h x y1 number block
@@ -266,6 +277,15 @@ table =
     ∷ question 64 256 1 0 1
     ∷ question 128 511 3 32 1
     ∷ question 128 512 3 32 3
+    -- the part that a question hands back: it lies where its register does; none on a refusal
+    ∷ part 128 512 1 0 0 16
+    ∷ part 128 512 1 31 496 16
+    ∷ part 128 512 8 8 128 128
+    ∷ part 256 1024 2 30 960 64
+    ∷ part 512 2048 4 28 1792 256
+    ∷ part 128 511 1 1 0 0
+    ∷ part 128 512 8 4 0 0
+    ∷ part 128 512 1 32 0 0
     -- 9: a key or block not 16 bytes long
     ∷ times 16 16 0
     ∷ times 15 16 9
@@ -288,6 +308,18 @@ table =
     ∷ out 15 0 9
     ∷ out 17 0 9
     ∷ out 17 11 9
+    ∷ written (replicate 15 0xA5) 1 (replicate 15 0xA5)
+    ∷ written (replicate 16 0xA5) 1 (replicate 15 0x00 ++ 0x01 ∷ [])
+    ∷ written (replicate 16 0xA5) 0x80000000000000000000000000000000 (0x80 ∷ replicate 15 0x00)
+    ∷ written (replicate 17 0xA5) 1 (replicate 17 0xA5)
+    -- the finish: 9 of the key and of the `out`, 10; a running hash that is refused stays in its phase
+    ∷ finishes 0 16 16 0 2
+    ∷ finishes 1 16 16 0 2
+    ∷ finishes 2 16 16 10 2
+    ∷ finishes 0 15 16 9 0
+    ∷ finishes 0 16 15 9 0
+    ∷ finishes 1 16 17 9 1
+    ∷ finishes 2 16 15 9 2
     -- 9: the degree of bytes that are no block
     ∷ degreeOfBytes (replicate 15 0x01) 9 0
     ∷ degreeOfBytes (replicate 16 0x01) 0 127
@@ -427,5 +459,5 @@ AllHold (e ∷ es) = Holds e × AllHold es
 
 -- the statement: the rows are so many, and all of them hold
 pub record ExamplesHold : Type 0 where
-  pub rows : length table ≡ 265
+  pub rows : length table ≡ 284
   pub all : AllHold table

@@ -8,7 +8,6 @@ use Rattle.gf128.specs.Bytes.{blockAt}
 use Rattle.gf128.specs.Field.{product}
 use Rattle.gf128.specs.Hash.{ghash}
 use Rattle.gf128.specs.StepBack.{StepsBack}
-use Rattle.vector_word.specs.declared.Fields.{Fields}
 use Rattle.vector_kind.specs.declared.Kind.{Kind}
 use Rattle.vector_kind.specs.declared.Kind.the-variants.{VghshVv}
 use Rattle.vector_word.specs.declared.Word.the-variants.{Known}

@@ -1,7 +1,7 @@
 -- Document 01, "The eight words": the fields of a 32-bit word, and the table of the words, a row a line.
 -- Assumes nothing.
 use Prim.Native.Nat.{ℕ, _/_, _%_, _^_}
-use mathlib.Core.Bool.{Bool, true, false, cond, _&&_}
+use mathlib.Core.Bool.{Bool, true, cond, _&&_}
 use mathlib.Core.List.{List, [], _∷_}
 use lib.Dec.{eqb}
 use Rattle.vector_kind.specs.declared.Kind.{Kind}

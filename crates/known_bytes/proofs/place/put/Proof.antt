@@ -6,7 +6,7 @@ use native.Mathlib.Omega.{arith}
 use lib.ListN.{length, length-set, take}
 use lib.Seq.{sets}
 use borrow.Author.Needs.{needs}
-use Rattle.known_bytes.proofs.Stores.{sets-past, sets-cut, sets-next}
+use Rattle.octets.proofs.Stores.{sets-past, sets-cut, sets-next}
 use Rattle.known_bytes.proofs.place.put.Statement.{statement}
 use Rattle.known_bytes.proofs.place.put.Tie as tie
 
