@@ -1,8 +1,7 @@
 // Bytes that can be made again.
 ghost use mathlib.Core.Path.{_≡_};
-ghost use Prim.Native.Nat.{ℕ, _<_};
-ghost use lib.ListN.{length, getD};
-ghost use Rattle.known_bytes.specs.Pattern.{nextOf, byteAt};
+ghost use lib.ListN.{length};
+ghost use Rattle.known_bytes.specs.Pattern.{nextOf, filled};
 
 // Byte i is (step i + first) mod modulus: the first, the step and the modulus.
 pub struct Pattern(pub u64, pub u64, pub u64);
@@ -20,8 +19,7 @@ impl Pattern {
 }
 
 pub fn fill(p: Pattern, s: &mut [u8])
-    ensures { λ _. ⌜ (length (now (s .exit)) ≡ length (now (s .entry)))
-        × ((i : ℕ) → i < length (now (s .entry)) → getD (now (s .exit)) i 0 ≡ byteAt p i) ⌝ }
+    ensures { λ _. ⌜ now (s .exit) ≡ filled p (length (now (s .entry))) ⌝ }
 {
     let mut b = p.0;
     let mut i: usize = 0;

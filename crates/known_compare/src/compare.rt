@@ -1,10 +1,9 @@
 // Bytes and answers compared with what they should be.
-ghost use mathlib.Core.Bool.{true, cond, _&&_};
+ghost use mathlib.Core.Bool.{true};
 ghost use mathlib.Core.Path.{_≡_};
-ghost use Prim.Native.Nat.{_+_, _%_, _^_};
-ghost use lib.Dec.{eqb};
 ghost use Rattle.ghash_block.specs.Block.{valueOf};
 ghost use Rattle.gf128.specs.Bytes.{blockBytes};
+ghost use Rattle.known_compare.specs.Counted.{counted, answerIs};
 use crate::tally::count;
 use ghash_block::answer::Answer;
 use ghash_block::block::Block;
@@ -38,8 +37,7 @@ pub fn block_bytes(b: Block) -> [u8; 16]
 
 // Counts the answer if it is this number with this block.
 pub fn answer(agreed: u64, a: Answer, number: u32, block: Block) -> u64
-    ensures { λ r. ⌜ r ≡ cond ((eqb (a .number) number && eqb (a .block .0) (block .0)) && eqb (a .block .1) (block .1))
-        ((agreed + 1) % 2 ^ 64) agreed ⌝ }
+    ensures { λ r. ⌜ r ≡ counted agreed (answerIs a number block) ⌝ }
 {
     let b = a.block;
     count(

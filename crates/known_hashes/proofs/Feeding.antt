@@ -1,11 +1,11 @@
 -- Pieces fed one after the other. Assumes nothing.
 use mathlib.Core.List.{List, [], _∷_, _++_, append-assoc, append-nil}
 use mathlib.Core.Path.{_≡_, refl, sym, subst, ap, _∙_}
-use Prim.Native.Nat.{ℕ, zero, suc, _-_, _≤_}
+use Prim.Native.Nat.{ℕ, _+_, _-_, _≤_}
 use native.Mathlib.Omega.{arith}
 use lib.Bits.{bitOr}
 use lib.ListN.{take, drop}
-use lib.Seq.{take-all}
+use lib.Seq.{take-add}
 use Rattle.gf128.specs.Pieces.{joined, fedAll, answers, fedAllA, answersA, fedAllC, answersC, runOf}
 use Rattle.gf128.specs.Running.{State, fresh, feedARefusal, afterFeedA, finishRefusal, finishBlock}
 use Rattle.ghash_running.specs.Answers.{FeedsA, FeedsC, Finishes}
@@ -50,12 +50,7 @@ last-both n [] ks = refl
 last-both n (m ∷ ms) ks = last-both m ms ks
 
 taken : (s : List ℕ) (at end : ℕ) → at ≤ end → take at s ++ take (end - at) (drop at s) ≡ take end s
-taken s zero end l = let all : end - 0 ≡ end = omega arith in rw all
-taken [] (suc at) zero l = absurd (omega arith)
-taken [] (suc at) (suc end) l = take-all (suc end - suc at) [] (omega arith)
-taken (b ∷ s) (suc at) zero l = absurd (omega arith)
-taken (b ∷ s) (suc at) (suc end) l =
-    let less : suc end - suc at ≡ end - at = omega arith in rw less (ap (λ (x : List ℕ). b ∷ x) (taken s at end (omega arith)))
+taken s at end l = let all : at + (end - at) ≡ end = omega arith in sym (take-add at (end - at) s) ∙ ap (λ (n : ℕ). take n s) all
 
 pub none-fed : (part : Part) (key s : List ℕ) (before : Fed) → FedIn part key before (take 0 s) before
 unfolding joined fedAll answers lastOr

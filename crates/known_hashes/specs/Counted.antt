@@ -1,13 +1,12 @@
 -- What a way to hash answers, and an answer counted.
 -- Assumes nothing.
-use mathlib.Core.Bool.{cond, _&&_}
 use mathlib.Core.List.{List}
 use mathlib.Core.Path.{_≡_}
-use Prim.Native.Nat.{ℕ, _+_, _%_, _^_}
-use lib.Dec.{eqb}
+use Prim.Native.Nat.{ℕ}
 use Rattle.ghash_block.specs.declared.answer.Answer.{Answer}
 use Rattle.ghash_block.specs.declared.block.Block.{Block}
 use Rattle.ghash_whole.specs.Answer.{HashAnswer}
+use Rattle.known_compare.specs.Counted.{counted, answerIs}
 use Rattle.known_hashes.specs.Pieces.{InPieces}
 use Rattle.known_hashes.specs.declared.hashes.Way.{Way}
 use Rattle.known_hashes.specs.declared.hashes.Way.the-variants.{Plain, Fast, Pieces}
@@ -25,6 +24,4 @@ pub record HashedBy (way : Way) (key a c : List ℕ) (r : Answer) : Type 0 where
 pub record Counted (way : Way) (key a c : List ℕ) (agreed number : ℕ) (block : Block) (r : ℕ) : Type 0 where
   pub answer : Answer
   pub hashed : HashedBy way key a c answer
-  pub counted : r
-      ≡ cond ((eqb (answer .number) number && eqb (answer .block .0) (block .0)) && eqb (answer .block .1) (block .1))
-      ((agreed + 1) % 2 ^ 64) agreed
+  pub counted : r ≡ counted agreed (answerIs answer number block)

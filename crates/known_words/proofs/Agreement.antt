@@ -1,17 +1,16 @@
 -- What it takes for a call to agree with its record. Assumes nothing.
-use mathlib.Core.Bool.{Bool, true, false, true≢false, cond, _&&_}
-use mathlib.Core.Path.{_≡_, refl, sym, ap, _∙_}
+use mathlib.Core.Bool.{Bool, true, cond, _&&_, and-eq-true-iff}
+use mathlib.Core.Path.{_≡_, sym, ap, _∙_}
 use mathlib.Core.List.{List, _++_}
-use Prim.Native.Nat.{ℕ, _<_, _≤_}
+use Prim.Native.Nat.{ℕ, _≤_}
 use native.Mathlib.Omega.{arith}
 use lib.Dec.{eqb}
-use lib.ListN.{length, getD, take, drop}
+use lib.ListN.{length, take, drop}
 use lib.Seq.{sets, length-take-le}
 use borrow.Author.Tests.{eq-eqb, eqb-true}
 use Rattle.octets.specs.LittleEndian.{readLe}
 use Rattle.known_bytes.specs.declared.pattern.Pattern.{Pattern}
-use Rattle.known_bytes.specs.Pattern.{byteAt, filled}
-use Rattle.known_bytes.proofs.Filled.{is-filled}
+use Rattle.known_bytes.specs.Pattern.{filled}
 use Rattle.vector_registers.specs.declared.settings.Settings.{Settings}
 use Rattle.vector_group.specs.Group.{groupRefusal, groupOf}
 use Rattle.vector_refusal.specs.Refusal.{refusalOf}
@@ -19,10 +18,10 @@ use Rattle.vector_execute.specs.Execute.{executed, vstartAfter}
 use Rattle.known_words.specs.Call.{numberAt, settingsAt, fileLength, before, answersAs, after, expected, Agrees, GroupIs, groupAgrees}
 
 -- bytes put into a pattern
-pub put-into : (p : Pattern) (n : ℕ) (f changed r : List ℕ) (at start : ℕ) → length f ≡ n → ((k : ℕ) → k < n → getD f k 0 ≡ byteAt p k)
+pub put-into : (p : Pattern) (n : ℕ) (f changed r : List ℕ) (at start : ℕ) → f ≡ filled p n
     → at ≡ start → r ≡ sets f at changed → r ≡ sets (filled p n) start changed
-put-into p n f changed r at start l h place e =
-    e ∙ ap (λ (x : List ℕ). sets x at changed) (is-filled p f n l h) ∙ ap (λ (k : ℕ). sets (filled p n) k changed) place
+put-into p n f changed r at start f-is place e =
+    e ∙ ap (λ (x : List ℕ). sets x at changed) f-is ∙ ap (λ (k : ℕ). sets (filled p n) k changed) place
 
 -- an executed word, and what is compared with it
 pub executes-as : (s file file′ : List ℕ) (settings : Settings) (word scalar number vstart n v : ℕ)
@@ -32,11 +31,6 @@ pub executes-as : (s file file′ : List ℕ) (settings : Settings) (word scalar
     → ((eqb n number && eqb v vstart) ≡ answersAs s (length file)) × (file′ ≡ after s file)
 executes-as s file file′ settings word scalar number vstart n v at num w x n-is v-is file-is vstart-is =
     (rw (n-is, v-is, vstart-is, num, w, at), file-is ∙ rw (w, at, x))
-
--- both hold where their conjunction does
-pub both : (a b : Bool) → (a && b) ≡ true → (a ≡ true) × (b ≡ true)
-both true b e = (refl, e)
-both false b e = absurd (true≢false (sym e))
 
 -- a call on the first bytes f of n, then a comparison with the bytes w
 pub agreement : (s changed f part w : List ℕ) (n at : ℕ) (ok same : Bool)
@@ -48,7 +42,7 @@ agreement s changed f part w n at ok same f-is at-is fits whole ok-is part-is w-
     let start : length (take at f) ≡ fileLength s = length-take-le at f fits ∙ at-is in
     let answer : ok ≡ answersAs s (fileLength s) = ok-is ∙ ap (answersAs s) start in
     let left : part ++ drop at f ≡ after s (take (fileLength s) (before n)) ++ drop (fileLength s) (before n) = rw (part-is, at-is, f-is) in (
-      λ e. let parts = both ok same e in record {
+      λ e. let parts = and-eq-true-iff ok same .0 e in record {
         fits = omega arith;
         answer = sym answer ∙ parts .0;
         file = sym left ∙ forth (parts .1) ∙ w-is;
@@ -65,7 +59,7 @@ module _ (vlen lmul register : ℕ) (file : List ℕ) where
       → ((eqb m n && same) ≡ true → GroupIs vlen file lmul register number changed)
       × (GroupIs vlen file lmul register number changed → (eqb m n && same) ≡ true)
   group-is number m n part changed same m-is n-is part-is forth back = (
-    λ e. let parts = both (eqb m n) same e in record {
+    λ e. let parts = and-eq-true-iff (eqb m n) same .0 e in record {
       answer = sym m-is ∙ eqb-true m n (parts .0) ∙ n-is;
       bytes = sym part-is ∙ forth (parts .1);
     },

@@ -1,14 +1,13 @@
 -- A word on one element, and the word of K12. Assumes nothing.
-use mathlib.Core.Bool.{Bool, true, _&&_}
+use mathlib.Core.Bool.{Bool, true, _&&_, and-eq-true-iff}
 use mathlib.Core.List.{List}
 use mathlib.Core.Path.{_≡_, sym, ap, _∙_}
-use Prim.Native.Nat.{ℕ, _/_, _<_}
+use Prim.Native.Nat.{ℕ, _/_}
 use lib.Dec.{eqb}
-use lib.ListN.{length, getD}
+use lib.ListN.{length}
 use borrow.Author.Tests.{eq-eqb, eqb-true}
 use Rattle.octets.specs.LittleEndian.{writeLe}
-use Rattle.known_bytes.specs.Pattern.{byteAt}
-use Rattle.known_bytes.proofs.Filled.{is-filled}
+use Rattle.known_bytes.specs.Pattern.{filled}
 use Rattle.vector_refusal.specs.Refusal.{refusalOf}
 use Rattle.vector_execute.specs.Execute.{executed}
 use Rattle.vector_word.specs.declared.Fields.{Fields}
@@ -18,13 +17,12 @@ use Rattle.vector_word.specs.declared.Word.{Word}
 use Rattle.vector_word.specs.declared.Word.the-variants.{Known}
 use Rattle.known_words.specs.Call.{pattern}
 use Rattle.known_words.specs.Marked.{oneElement, elements, Becomes, k12}
-use Rattle.known_words.proofs.Agreement.{both}
 
 -- two elements put into the pattern
-pub elements-put : (n sew a b : ℕ) (f g h : List ℕ) → length f ≡ n → ((k : ℕ) → k < n → getD f k 0 ≡ byteAt pattern k)
+pub elements-put : (n sew a b : ℕ) (f g h : List ℕ) → f ≡ filled pattern n
     → g ≡ writeLe (sew / 8) f 32 a → h ≡ writeLe (sew / 8) g 48 b → h ≡ elements n sew a b
-elements-put n sew a b f g h l p g-is h-is =
-    h-is ∙ ap (λ (x : List ℕ). writeLe (sew / 8) x 48 b) (g-is ∙ ap (λ (x : List ℕ). writeLe (sew / 8) x 32 a) (is-filled pattern f n l p))
+elements-put n sew a b f g h f-is g-is h-is =
+    h-is ∙ ap (λ (x : List ℕ). writeLe (sew / 8) x 48 b) (g-is ∙ ap (λ (x : List ℕ). writeLe (sew / 8) x 32 a) f-is)
 
 -- a word on such a file f, then a comparison with the bytes w
 pub becomes : (word sew a b element : ℕ) (f g v w : List ℕ) (ok same : Bool)
@@ -37,7 +35,7 @@ becomes word sew a b element f g v w ok same f-is v-is len ok-is g-is w-is forth
     let done : ok ≡ eqb number 0 = ok-is ∙ ap (λ (n : ℕ). eqb (refusalOf n word (oneElement sew)) 0) len in
     let left : g ≡ executed word (oneElement sew) 0 (elements 512 sew a b) = g-is ∙ ap (executed word (oneElement sew) 0) f-is in
     let right : w ≡ writeLe (sew / 8) (elements 512 sew a b) 16 element = w-is ∙ ap (λ (x : List ℕ). writeLe (sew / 8) x 16 element) v-is in (
-      λ e. let parts = both ok same e in record {
+      λ e. let parts = and-eq-true-iff ok same .0 e in record {
         done = eqb-true number 0 (sym done ∙ parts .0);
         file = sym left ∙ forth (parts .1) ∙ right;
       },
@@ -47,9 +45,9 @@ becomes word sew a b element f g v w ok same f-is v-is len ok-is g-is w-is forth
 pub is-k12 : (w : Word) (k : Kind) (f : Fields) → w ≡ Known k f → k ≡ VghshVv
     → (((eqb (f .vm) 1 && eqb (f .vd) 4) && eqb (f .vs2) 8) && eqb (f .vs1) 12) ≡ true → w ≡ k12
 is-k12 w k f w-is k-is e =
-    let three = both _ _ e in
-    let two = both _ _ (three .0) in
-    let one = both _ _ (two .0) in
+    let three = and-eq-true-iff _ _ .0 e in
+    let two = and-eq-true-iff _ _ .0 (three .0) in
+    let one = and-eq-true-iff _ _ .0 (two .0) in
     w-is
     ∙ ap (λ (x : Kind). Known x f) k-is
     ∙ ap (λ (x : ℕ). Known VghshVv (record { vm = x; vs2 = f .vs2; vs1 = f .vs1; vd = f .vd })) (eqb-true (f .vm) 1 (one .0))

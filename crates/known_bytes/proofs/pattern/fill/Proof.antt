@@ -7,6 +7,7 @@ use lib.ListN.{length, length-set, getD}
 use lib.Seq.{getD-set-same, getD-set-other}
 use borrow.Author.Count.{below-none, below-more}
 use Rattle.known_bytes.specs.Pattern.{numberAt, byteAt}
+use Rattle.known_bytes.proofs.Filled.{is-filled}
 use Rattle.known_bytes.proofs.Numbers.{number-next}
 use borrow.Author.Needs.{needs}
 use Rattle.known_bytes.proofs.pattern.fill.Statement.{statement}
@@ -55,7 +56,9 @@ same-length : tie.Need-same-length Inv-loop μ-loop
 same-length c = search needs
 
 returns : tie.Need-returns Inv-loop μ-loop
-returns c = (c .before .loop .inv .1, λ i l. c .before .loop .inv .3 i (omega arith))
+returns c =
+    let end = c .before .loop in
+    is-filled _ (end .s) _ (end .inv .1) (λ k l. end .inv .3 k (omega arith))
 
 pub fill-spec : {M : Type 1} → statement M
 fill-spec =

@@ -23,7 +23,7 @@ returns c =
     let filling = first .before .before .before .before in
     let args = filling .before .before .before .args in
     elements-put _ (args .sew) (args .a) (args .b) (filling .fill .last .1 .0) (first .put-element .last .0) (second .put-element2 .last .0)
-    (filling .fill .ensures .0) (filling .fill .ensures .1) (first .put-element .ensures) (second .put-element2 .ensures)
+    (filling .fill .ensures) (first .put-element .ensures) (second .put-element2 .ensures)
 
 pub put-elements-spec : {M : Type 1} → statement M
 put-elements-spec =

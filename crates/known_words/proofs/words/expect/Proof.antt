@@ -20,7 +20,7 @@ returns : tie.Need-returns
 returns c =
     let putting = c .before .before in
     let filling = putting .before .before .before .before .before in
-    put-into _ _ (filling .fill .last .1 .0) (filling .before .before .before .before .before .args .changed .now) _ _ _ (filling .fill .ensures .0) (filling .fill .ensures .1) (putting .before .length-at .ensures) (putting .put .ensures)
+    put-into _ _ (filling .fill .last .1 .0) (filling .before .before .before .before .before .args .changed .now) _ _ _ (filling .fill .ensures) (putting .before .length-at .ensures) (putting .put .ensures)
 
 pub expect-spec : {M : Type 1} → statement M
 expect-spec =

@@ -4,7 +4,7 @@ use mathlib.Core.Path.{sym, ap, _∙_}
 use native.Mathlib.Omega.{arith}
 use lib.ListN.{length}
 use lib.Seq.{length-take-le}
-use Rattle.known_bytes.proofs.Filled.{is-filled}
+use Rattle.known_bytes.proofs.Filled.{length-filled}
 use Rattle.known_words.specs.Call.{expected}
 use borrow.Author.Needs.{needs}
 use Rattle.known_words.proofs.Agreement.{agreement}
@@ -51,10 +51,10 @@ returns-2 c = λ other.
     let fill = filling .fill in
     agreement (start .args .s .now) (start .args .changed .now) (fill .last .1 .0) (done .does .last .1 .1 .0) (wanted .expect .last .1 .1 .0)
     (length (start .args .file .now)) (reads .length-at .result) (done .does .result) (c .same .result)
-    (is-filled _ (fill .last .1 .0) (length (start .args .file .now)) (fill .ensures .0) (fill .ensures .1))
+    (fill .ensures)
     (reads .length-at .ensures)
     (omega arith)
-    (fill .ensures .0)
+    (ap length (fill .ensures) ∙ length-filled _ (length (start .args .file .now)))
     (done .does .ensures other .0)
     (done .does .ensures other .1)
     (wanted .expect .ensures ∙ ap (expected (start .args .s .now) (start .args .changed .now)) (start .pre))
