@@ -1,8 +1,9 @@
 # The targets are listed by a bare `make`. README says which to use when.
 SHELL := /bin/bash
 .DEFAULT_GOAL := help
-.PHONY: help setup tools demo test archive install uninstall bench derive integration riscv demo-riscv clean
+.PHONY: help setup tools demo test archive desk install uninstall bench derive integration riscv demo-riscv clean
 lib := target/staticlib/librvghash.a
+command := target/desk/rvghash
 version := $(shell cat VERSION)
 PREFIX ?= /usr/local
 DESTDIR ?=
@@ -37,15 +38,22 @@ archive: $(lib) ## proves the library and writes target/staticlib/librvghash.a
 $(lib): crates.txt $(shell find crates -name '*.rt' -o -name '*.antt')
 	rt staticlib rvghash
 
-install: $(lib) ## installs archive, header and pkg-config file under PREFIX (/usr/local), below DESTDIR if given
-	install -d "$(DESTDIR)$(PREFIX)/lib/pkgconfig" "$(DESTDIR)$(PREFIX)/include"
+desk: $(command) ## builds the desk's command, target/desk/rvghash, which turns words into their texts and back
+
+$(command): $(lib) include/rvghash.h $(wildcard desk/*)
+	@mkdir -p target/desk
+	gcc -std=c99 -O2 -Wall -Wextra -pedantic -Iinclude desk/*.c $(lib) -o $@
+
+install: $(lib) $(command) ## installs archive, header, pkg-config file and bin/rvghash under PREFIX (/usr/local), below DESTDIR
+	install -d "$(DESTDIR)$(PREFIX)/lib/pkgconfig" "$(DESTDIR)$(PREFIX)/include" "$(DESTDIR)$(PREFIX)/bin"
 	install -m 644 $(lib) "$(DESTDIR)$(PREFIX)/lib/librvghash.a"
 	install -m 644 include/rvghash.h "$(DESTDIR)$(PREFIX)/include/rvghash.h"
+	install -m 755 $(command) "$(DESTDIR)$(PREFIX)/bin/rvghash"
 	sed -e 's|@PREFIX@|$(PREFIX)|' -e 's|@VERSION@|$(version)|' rvghash.pc.in >"$(DESTDIR)$(PREFIX)/lib/pkgconfig/rvghash.pc"
 
 uninstall: ## removes what install wrote
 	rm -f "$(DESTDIR)$(PREFIX)/lib/librvghash.a" "$(DESTDIR)$(PREFIX)/include/rvghash.h" \
-		"$(DESTDIR)$(PREFIX)/lib/pkgconfig/rvghash.pc"
+		"$(DESTDIR)$(PREFIX)/lib/pkgconfig/rvghash.pc" "$(DESTDIR)$(PREFIX)/bin/rvghash"
 
 bench: $(lib) ## measures the library beside its peers, and writes docs/BENCHMARKS.md
 	@host/setup check bench

@@ -31,19 +31,16 @@ struct machine {
     uint8_t file[MAX_FILE];
 };
 
-/* The trapped instruction's name, for the listing alone: rvghash_execute decodes the word itself. */
-static const char *name_of(uint32_t word)
+/* The trapped word and its text, for the listing alone: rvghash_execute decodes the word itself. A text has no zero
+ * byte at its end, and at most 30 bytes. */
+static void print_word(uint32_t word)
 {
-    static const struct { uint32_t mask, match; const char *name; } rows[] = {
-        {0xFC00707F, 0x30002057, "vclmul.vv"},  {0xFC00707F, 0x30006057, "vclmul.vx"},
-        {0xFC00707F, 0x34002057, "vclmulh.vv"}, {0xFC00707F, 0x34006057, "vclmulh.vx"},
-        {0xFE00707F, 0xB2002077, "vghsh.vv"},   {0xFE00707F, 0x8E002077, "vghsh.vs"},
-        {0xFE0FF07F, 0xA208A077, "vgmul.vv"},   {0xFE0FF07F, 0xA608A077, "vgmul.vs"},
-    };
-    for (size_t i = 0; i < sizeof rows / sizeof rows[0]; i++)
-        if ((word & rows[i].mask) == rows[i].match)
-            return rows[i].name;
-    return "(no such word)";
+    uint8_t text[RVGHASH_TEXT_BYTES];
+    size_t length;
+    if (rvghash_disassemble(word, text, sizeof text, &length) == RVGHASH_DONE)
+        printf("%08" PRIx32 " %-30.*s", word, (int)length, (const char *)text);
+    else
+        printf("%08" PRIx32 " %-30s", word, "(no such word)");
 }
 
 static const char *meaning_of(uint32_t number)
@@ -79,8 +76,9 @@ static void trap(struct machine *m, uint32_t word, uint32_t sew, uint32_t lmul, 
     size_t bytes = m->vlen / 8, length = RVGHASH_FILE_BYTES(m->vlen);
     memcpy(before, m->file, length);
     uint32_t number = rvghash_execute(word, m->vlen, sew, lmul, vl, &vstart, scalar, m->file, length);
-    printf("%08" PRIx32 " %-10s answer %" PRIu32 ": %s; vstart %s %" PRIu32 "\n", word, name_of(word), number,
-           meaning_of(number), number == RVGHASH_DONE ? "is now" : "stays", vstart);
+    print_word(word);
+    printf("  answer %" PRIu32 ": %s; vstart %s %" PRIu32 "\n", number, meaning_of(number),
+           number == RVGHASH_DONE ? "is now" : "stays", vstart);
     unsigned changed = 0;
     for (unsigned r = 0; r < 32 && bytes > 0; r++)
         if (memcmp(before + r * bytes, m->file + r * bytes, bytes) != 0) {

@@ -5,8 +5,9 @@
  * The rules of every call:
  * - Overlap. What a call may write overlaps nothing else that is lent to it. What it only reads may overlap.
  * - Pointers. A length that goes with a pointer is a number of bytes. Where it is 0 the pointer may be anything, NULL
- *   too; else it points to that many bytes, at any alignment. A pointer without a length (vstart, degree, start,
- *   length, state) is not NULL and has the alignment of its type: 4 bytes for a uint32_t, 8 for a running hash.
+ *   too; else it points to that many bytes, at any alignment. A pointer without a length (vstart, start, length, kind,
+ *   vm, vs2, vs1, vd, word, degree, state) is not NULL and has the alignment of its type: 4 bytes for a uint32_t, 8 for
+ *   a size_t and for a running hash.
  * - Threads. No function allocates, blocks, keeps a pointer after it returns, or has state of its own. Each may run in
  *   any thread, on any core and in a handler, and at the same time as any other call, as long as no call writes
  *   memory that another one reads or writes.
@@ -21,13 +22,14 @@
 
 /* The version, as the file VERSION has it. */
 #define RVGHASH_VERSION_MAJOR 0
-#define RVGHASH_VERSION_MINOR 1
+#define RVGHASH_VERSION_MINOR 2
 #define RVGHASH_VERSION_PATCH 0
-#define RVGHASH_VERSION_STRING "0.1.0"
+#define RVGHASH_VERSION_STRING "0.2.0"
 
 #define RVGHASH_BLOCK_BYTES 16                             /* of a key, a block, a hash */
 #define RVGHASH_LIMIT_BYTES 1048576                        /* the most that A may have, and C */
 #define RVGHASH_FILE_BYTES(vlen) (32 * (size_t)(vlen) / 8) /* of the register file; VLEN is 128, 256 or 512 */
+#define RVGHASH_TEXT_BYTES 32                              /* the least for a text's buffer; the longest text has 30 */
 
 /* On each function that answers: a compiler that can do so warns where the answer is not looked at. */
 #if defined(__cplusplus) && __cplusplus >= 201703L
@@ -46,7 +48,7 @@ extern "C" {
 enum rvghash_number {
     RVGHASH_DONE = 0,              /* done; the executor sets vstart to 0 */
     RVGHASH_BAD_VLEN_OR_FILE = 1,  /* VLEN not 128, 256 or 512, or the file's length not 32 * VLEN / 8 */
-    RVGHASH_NOT_A_WORD = 2,        /* the word is none of the eight */
+    RVGHASH_NOT_A_WORD = 2,        /* the word is none of the eight; writer: no such word; reader: no word's text */
     RVGHASH_BAD_SETTINGS = 3,      /* SEW or LMUL not allowed, or vl over VLMAX */
     RVGHASH_SEW_NOT_32 = 4,        /* a GHASH word and SEW is not 32 */
     RVGHASH_NOT_MULTIPLE_OF_4 = 5, /* a GHASH word and vl or vstart no multiple of 4 */
@@ -57,7 +59,8 @@ enum rvghash_number {
     RVGHASH_BAD_RUNNING = 10,      /* running hash in the wrong phase, or malformed */
     RVGHASH_TOO_LONG = 11,         /* A or C would pass 1,048,576 bytes */
     RVGHASH_NONE = 12,             /* step back: no earlier hash; degree: zero block */
-    RVGHASH_MANY = 13              /* step back: more than one earlier hash */
+    RVGHASH_MANY = 13,             /* step back: more than one earlier hash */
+    RVGHASH_SHORT_TEXT = 22        /* listing: a text's buffer under 32 bytes */
 };
 
 /*
@@ -85,6 +88,57 @@ uint32_t rvghash_group_refusal(uint32_t vlen, size_t file_len, uint32_t lmul, ui
  */
 RVGHASH_MUST_USE
 uint32_t rvghash_group(uint32_t vlen, size_t file_len, uint32_t lmul, uint32_t reg, size_t *start, size_t *length);
+
+/*
+ * The kinds of word. vm is 0 or 1 in the first four, and 1 in the GHASH words, the last four. vs1 is rs1 in the .vx
+ * words, and 17 in the vgmul words, where it is a part of the encoding.
+ */
+enum rvghash_kind {
+    RVGHASH_VCLMUL_VV = 0,
+    RVGHASH_VCLMUL_VX = 1,
+    RVGHASH_VCLMULH_VV = 2,
+    RVGHASH_VCLMULH_VX = 3,
+    RVGHASH_VGHSH_VV = 4,
+    RVGHASH_VGHSH_VS = 5,
+    RVGHASH_VGMUL_VV = 6,
+    RVGHASH_VGMUL_VS = 7
+};
+
+/*
+ * Writes a word: from its kind and fields to its 32 bits.
+ * Lent: word, one number.
+ * Done (0): *word is the word, and rvghash_decode gives the same kind and fields again.
+ * Refused (2; the kind is over 7, a register over 31 or vm over 1, vm is 0 in a GHASH word, or vs1 is not 17 in a vgmul
+ * word): *word is 0.
+ */
+RVGHASH_MUST_USE
+uint32_t rvghash_encode(uint32_t kind, uint32_t vm, uint32_t vs2, uint32_t vs1, uint32_t vd, uint32_t *word);
+
+/*
+ * Decodes a word: from its 32 bits to its kind and fields.
+ * Lent: kind, vm, vs2, vs1 and vd, one number each.
+ * Done (0): they are the word's, and rvghash_encode writes the same word from them. Refused (2): all five are 0.
+ */
+RVGHASH_MUST_USE
+uint32_t rvghash_decode(uint32_t word, uint32_t *kind, uint32_t *vm, uint32_t *vs2, uint32_t *vs1, uint32_t *vd);
+
+/*
+ * Lists a word: its text, as "vghsh.vv v4, v8, v12" or "vclmul.vx v1, v2, x3, v0.t". That is the mnemonic, a space, and
+ * vd, vs2, vs1 or rs1 (in vgmul words vd and vs2 alone), parted by a comma and a space; ", v0.t" ends it where vm is 0.
+ * Lent: text, at least 32 bytes; length, one number.
+ * Done (0): the text is the first *length bytes of text, with no ending byte; every later byte is as before.
+ * Refused (2; 22, text_len is under 32): text is as before, and *length is 0.
+ */
+RVGHASH_MUST_USE
+uint32_t rvghash_disassemble(uint32_t word, uint8_t *text, size_t text_len, size_t *length);
+
+/*
+ * Reads a text back to its word: exactly the texts that rvghash_disassemble writes, and no other bytes.
+ * Lent: text, of any length, only read; word, one number.
+ * Done (0): *word is the word of this text. Refused (2): *word is 0.
+ */
+RVGHASH_MUST_USE
+uint32_t rvghash_assemble(const uint8_t *text, size_t text_len, uint32_t *word);
 
 /*
  * The product of a block and a key in the GHASH field, bit by bit (plain) or four coefficients at a time (fast).

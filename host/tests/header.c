@@ -128,6 +128,75 @@ static void vector(void)
     expect(start == 0 && length == 0, "no group has no bytes");
 }
 
+/* The word of these fields, which must decode to them again; 0 where there is none. */
+static uint32_t written(uint32_t kind, uint32_t vm, uint32_t vs2, uint32_t vs1, uint32_t vd)
+{
+    uint32_t word = 7, k = 7, m = 7, s2 = 7, s1 = 7, d = 7;
+    uint32_t number = rvghash_encode(kind, vm, vs2, vs1, vd, &word);
+    uint32_t again = rvghash_decode(word, &k, &m, &s2, &s1, &d);
+    expect(number == again && (number == RVGHASH_DONE || number == RVGHASH_NOT_A_WORD), "a writer's number");
+    if (number == RVGHASH_DONE)
+        expect(k == kind && m == vm && s2 == vs2 && s1 == vs1 && d == vd, "a word decodes to its kind and fields");
+    else
+        expect(word == 0 && k == 0 && m == 0 && s2 == 0 && s1 == 0 && d == 0, "a refusal's word and fields are 0");
+    return word;
+}
+
+/* A word of each kind. vm and vs1 are those that the kind allows, then others. */
+static void words(void)
+{
+    expect(written(RVGHASH_VCLMUL_VV, 1, 2, 3, 1) == 0x3221A0D7, "vclmul.vv v1, v2, v3");
+    expect(written(RVGHASH_VCLMUL_VX, 1, 2, 3, 1) == 0x3221E0D7, "vclmul.vx v1, v2, x3");
+    expect(written(RVGHASH_VCLMULH_VV, 0, 2, 3, 1) == 0x3421A0D7, "vclmulh.vv v1, v2, v3, v0.t");
+    expect(written(RVGHASH_VCLMULH_VX, 0, 31, 31, 31) == 0x35FFEFD7, "vclmulh.vx v31, v31, x31, v0.t");
+    expect(written(RVGHASH_VGHSH_VV, 1, 8, 12, 4) == 0xB2862277, "vghsh.vv v4, v8, v12");
+    expect(written(RVGHASH_VGHSH_VS, 1, 8, 12, 4) == 0x8E862277, "vghsh.vs v4, v8, v12");
+    expect(written(RVGHASH_VGMUL_VV, 1, 8, 17, 4) == 0xA288A277, "vgmul.vv v4, v8");
+    expect(written(RVGHASH_VGMUL_VS, 1, 8, 17, 4) == 0xA688A277, "vgmul.vs v4, v8");
+    expect(written(8, 1, 2, 17, 1) == 0, "a kind over 7");
+    expect(written(RVGHASH_VCLMUL_VV, 2, 2, 3, 1) == 0, "a vm over 1");
+    expect(written(RVGHASH_VCLMUL_VV, 1, 32, 3, 1) == 0, "a vs2 over 31");
+    expect(written(RVGHASH_VCLMUL_VX, 1, 2, 32, 1) == 0, "an rs1 over 31");
+    expect(written(RVGHASH_VCLMUL_VV, 1, 2, 3, 32) == 0, "a vd over 31");
+    expect(written(RVGHASH_VGHSH_VV, 0, 8, 12, 4) == 0, "vm 0 in a GHASH word");
+    expect(written(RVGHASH_VGMUL_VS, 1, 8, 16, 4) == 0, "a vgmul word whose vs1 is not 17");
+}
+
+/* The word's text is this one, every later byte of the buffer stays, and the text is read back to the word. */
+static void text(uint32_t word, const char *want)
+{
+    uint8_t buffer[RVGHASH_TEXT_BYTES + 1], before[RVGHASH_TEXT_BYTES + 1];
+    size_t length = 7, n = strlen(want);
+    uint32_t back = 7;
+    memset(before, '#', sizeof before);
+    for (size_t size = RVGHASH_TEXT_BYTES; size <= sizeof buffer; size++) {
+        memcpy(buffer, before, sizeof buffer);
+        expect(rvghash_disassemble(word, buffer, size, &length) == RVGHASH_DONE && length == n, want);
+        expect(memcmp(buffer, want, n) == 0 && memcmp(buffer + n, before, sizeof buffer - n) == 0, want);
+    }
+    memcpy(buffer, before, sizeof buffer);
+    expect(rvghash_disassemble(word, buffer, RVGHASH_TEXT_BYTES - 1, &length) == RVGHASH_SHORT_TEXT, "a short buffer");
+    expect(length == 0 && memcmp(buffer, before, sizeof buffer) == 0, "a short buffer stays, and its length is 0");
+    expect(rvghash_assemble((const uint8_t *)want, n, &back) == RVGHASH_DONE && back == word, want);
+    expect(rvghash_assemble((const uint8_t *)want, n + 1, &back) == RVGHASH_NOT_A_WORD && back == 0, "an ending byte");
+}
+
+static void texts(void)
+{
+    uint8_t buffer[RVGHASH_TEXT_BYTES] = {'#'};
+    size_t length = 7;
+    uint32_t word = 7;
+    text(0xB2862277, "vghsh.vv v4, v8, v12");
+    text(0x3221E0D7, "vclmul.vx v1, v2, x3");
+    text(0xA688A277, "vgmul.vs v4, v8");
+    text(0x35FFAFD7, "vclmulh.vv v31, v31, v31, v0.t");
+    expect(rvghash_disassemble(0xB0862277, buffer, sizeof buffer, &length) == RVGHASH_NOT_A_WORD, "vghsh.vv with vm 0");
+    expect(length == 0 && buffer[0] == '#', "no word has no text");
+    expect(rvghash_disassemble(0xB0862277, NULL, 0, &length) == RVGHASH_NOT_A_WORD, "2 comes before 22");
+    expect(rvghash_disassemble(0xB2862277, NULL, 0, &length) == RVGHASH_SHORT_TEXT && length == 0, "no buffer");
+    expect(rvghash_assemble(NULL, 0, &word) == RVGHASH_NOT_A_WORD && word == 0, "no text");
+}
+
 int main(void)
 {
     version();
@@ -136,6 +205,8 @@ int main(void)
     fields();
     running();
     vector();
+    words();
+    texts();
     if (!failed)
         printf("header: the version, the layout, the constants and a call under every name hold\n");
     return failed;

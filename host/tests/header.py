@@ -1,7 +1,8 @@
 #!/usr/bin/env python3
 """Holds the C declarations against the library: include/rvghash.h as the kit's own clang parses it, the exported signatures of
 crates/rvghash/src, and the oracle's host/oracle/src/ffi.rs. They must agree on every function's name and answer, on its
-parameters' names, order and types, and on the running hash's fields. The header's refusal numbers must be README's table.
+parameters' names, order and types, and on the running hash's fields. The header's refusal numbers must be README's table,
+and its kinds of word those of crates/vector_kind.
 
     header.py [ARCHIVE]     compares; with librvghash.a, its global symbols too
     header.py --self-test   puts wrong declarations into a copy of the header: each must be refused
@@ -17,6 +18,8 @@ import tempfile
 
 HEADER = "include/rvghash.h"
 STRUCT = "struct rvghash_running"
+NUMBERS, KINDS = "rvghash_number", "rvghash_kind"  # the enums
+KINDS_SOURCE = "crates/vector_kind/specs/Kinds.antt"
 
 # The kit's clang brings no headers, and the comparison goes by the types' spelled names: so these serve.
 STDINT = "".join(f"typedef __UINT{bits}_TYPE__ uint{bits}_t; typedef __INT{bits}_TYPE__ int{bits}_t;\n"
@@ -68,17 +71,17 @@ def constant(node):
 
 
 def of_header(header):
-    """What the header declares: functions, the struct's fields, the enum's numbers."""
-    functions, fields, numbers = {}, [], []
+    """What the header declares: functions, the struct's fields, each enum's names and numbers."""
+    functions, fields, enums = {}, [], {NUMBERS: [], KINDS: []}
     for node in parsed(header):
         if node["kind"] == "FunctionDecl":
             answer = node["type"]["qualType"].split(" (")[0]
             functions[node["name"]] = (answer, named_types(node, "ParmVarDecl"))
         elif node["kind"] == "RecordDecl" and f"struct {node.get('name')}" == STRUCT:
             fields = named_types(node, "FieldDecl")
-        elif node["kind"] == "EnumDecl" and node.get("name") == "rvghash_number":
-            numbers = [(inner["name"], int(constant(inner))) for inner in of_kind(node, "EnumConstantDecl")]
-    return functions, fields, numbers
+        elif node["kind"] == "EnumDecl":
+            enums[node.get("name")] = [(inner["name"], constant(inner)) for inner in of_kind(node, "EnumConstantDecl")]
+    return functions, fields, enums
 
 
 def comma_parts(text):
@@ -160,26 +163,33 @@ def function_differences(header, other):
 def table_of_numbers():
     """README's rows: number, name, meaning."""
     rows = re.findall(r"^\| (\d+) \| `(RVGHASH_\w+)` \| (.*?) \|$", read("README.md"), re.M)
-    return [(name, int(number), meaning) for number, name, meaning in rows]
+    return [(name, number, meaning) for number, name, meaning in rows]
 
 
 def number_differences(header, numbers):
     table = table_of_numbers()
-    yield from differences("enum rvghash_number", [(n, str(v)) for n, v in numbers], [(n, str(v)) for n, v, _ in table])
+    yield from differences(f"enum {NUMBERS}", numbers, [(name, value) for name, value, _ in table])
     for name, value, meaning in table:
         if not re.search(rf"\b{name} = {value},?\s*/\* {re.escape(meaning)} \*/", read(header)):
             yield f"{name}: the header's comment is not {{}}'s `{meaning}`"
 
 
+def kinds_of_library():
+    """The kinds' numbers in the library's definition, by their names in C: VclmulVv is RVGHASH_VCLMUL_VV."""
+    clauses = re.findall(r"^kindNumber (\w+) = (\d+)$", read(KINDS_SOURCE), re.M)
+    return [("RVGHASH_" + re.sub(r"\B(?=[A-Z])", "_", name).upper(), number) for name, number in clauses]
+
+
 def complaints(header):
     """Everything in which the header differs from the rest."""
-    functions, fields, numbers = of_header(header)
+    functions, fields, enums = of_header(header)
     found = []
     for where, theirs in (("crates/rvghash", of_library()), ("the oracle", of_oracle())):
         found += [text.format(where) for text in function_differences(functions, theirs)]
     for where, path in (("crates/ghash_state", "crates/ghash_state/src/lib.rt"), ("the oracle", "host/oracle/src/ffi.rs")):
         found += [text.format(where) for text in differences(STRUCT, fields, struct_fields(path))]
-    found += [text.format("README") for text in number_differences(header, numbers)]
+    found += [text.format("README") for text in number_differences(header, enums[NUMBERS])]
+    found += [text.format("crates/vector_kind") for text in differences(f"enum {KINDS}", enums[KINDS], kinds_of_library())]
     return found
 
 
@@ -204,6 +214,16 @@ WRONG = [
     ("another meaning", {"/* a key or block not 16 bytes long */": "/* a key or block not 8 bytes long */"}),
     ("a field of 64 bits", {"uint32_t a_count": "uint64_t a_count"}),
     ("a function that is not there", {"void rvghash_running_new": "void rvghash_reset(void);\nvoid rvghash_running_new"}),
+    ("a function left out",
+     {"RVGHASH_MUST_USE\nuint32_t rvghash_assemble(const uint8_t *text, size_t text_len, uint32_t *word);": ""}),
+    ("two kinds exchanged", {"VCLMUL_VX = 1,": "VCLMUL_VX = 2,", "VCLMULH_VV = 2,": "VCLMULH_VV = 1,"}),
+    ("a kind left out", {"    RVGHASH_VGHSH_VS = 5,\n": ""}),
+    ("a kind that is not there", {"RVGHASH_VGMUL_VS = 7\n": "RVGHASH_VGMUL_VS = 7,\n    RVGHASH_VGMUL_VX = 8\n"}),
+    ("a text length of 32 bits", {"size_t text_len": "uint32_t text_len"}),
+    ("a text's length of 32 bits", {"size_t text_len, size_t *length": "size_t text_len, uint32_t *length"}),
+    ("a text to read that is not const", {"const uint8_t *text": "uint8_t *text"}),
+    ("vs1 and vs2 exchanged", {"uint32_t *vs2, uint32_t *vs1": "uint32_t *vs1, uint32_t *vs2"}),
+    ("a number 21", {"RVGHASH_SHORT_TEXT = 22 ": "RVGHASH_SHORT_TEXT = 21 "}),
 ]
 
 
@@ -215,13 +235,13 @@ def changed(text, changes):
 
 
 def self_test():
-    accepted = 0
+    accepted, always = 0, complaints(HEADER)
     with tempfile.TemporaryDirectory() as folder:
         for what, changes in WRONG:
             copy = os.path.join(folder, "rvghash.h")
             with open(copy, "w", encoding="utf-8") as file:
                 file.write(changed(read(HEADER), changes))
-            found = complaints(copy)
+            found = [text for text in complaints(copy) if text not in always]
             accepted += not found
             print(f"header: {what}: " + (f"refused: {found[0]}" if found else "ACCEPTED"))
     print(f"header: {len(WRONG) - accepted} of {len(WRONG)} wrong headers are refused")
@@ -232,15 +252,15 @@ def main():
     if sys.argv[1:] == ["--self-test"]:
         sys.exit(1 if self_test() else 0)
     found = complaints(HEADER)
-    functions, _, numbers = of_header(HEADER)
+    functions, _, enums = of_header(HEADER)
     if len(sys.argv) > 1:
         found += symbol_complaints(sys.argv[1], set(functions))
     for text in found:
         print("header:", text)
-    if found or not functions or not numbers:
+    if found or not functions or not enums[NUMBERS] or not enums[KINDS]:
         sys.exit("header: the declarations differ")
-    print(f"header: {len(functions)} functions, the struct and {len(numbers)} numbers are the same in the header, the library, "
-          "the oracle and README")
+    print(f"header: {len(functions)} functions, the struct, {len(enums[NUMBERS])} numbers and {len(enums[KINDS])} kinds of word "
+          "are the same in the header, the library, the oracle and README")
 
 
 if __name__ == "__main__":

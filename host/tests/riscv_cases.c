@@ -68,7 +68,13 @@ static uint32_t answer_of(const struct call *c, void *const b[MAX_LENT])
     case FEED_C: return rvghash_feed_c(b[0], b[1], l[1], b[2], l[2]);
     case FEED_C_PLAIN: return rvghash_feed_c_plain(b[0], b[1], l[1], b[2], l[2]);
     case FINISH: return rvghash_finish(b[0], b[1], l[1], b[2], l[2]);
-    default: return rvghash_finish_plain(b[0], b[1], l[1], b[2], l[2]);
+    case FINISH_PLAIN: return rvghash_finish_plain(b[0], b[1], l[1], b[2], l[2]);
+    case ENCODE:
+        return rvghash_encode((uint32_t)n[KIND], (uint32_t)n[VM], (uint32_t)n[VS2], (uint32_t)n[VS1], (uint32_t)n[VD],
+                              b[0]);
+    case DECODE: return rvghash_decode((uint32_t)n[WORD], b[0], b[1], b[2], b[3], b[4]);
+    case DISASSEMBLE: return rvghash_disassemble((uint32_t)n[WORD], b[0], l[0], b[1]);
+    default: return rvghash_assemble(b[0], l[0], b[1]);
     }
 }
 
@@ -135,7 +141,9 @@ int run(int argc, char **argv)
     }
     put("cases:");
     int enough = told(" executions,", EXECUTE, EXECUTE, 20000) & told(" hashes,", GHASH_FAST, GHASH_PLAIN, 1000) &
-                 told(" step backs,", STEP_BACK, STEP_BACK, 1000) & told(" calls on running hashes", FEED_A, FINISH_PLAIN, 10000);
+                 told(" step backs,", STEP_BACK, STEP_BACK, 1000) &
+                 told(" calls on running hashes,", FEED_A, FINISH_PLAIN, 10000) &
+                 told(" calls on words and texts", ENCODE, ASSEMBLE, 20000);
     put(enough ? ", no difference\n" : ": too few\n");
     return enough ? 0 : 1;
 }

@@ -18,10 +18,15 @@ enum function {
     FEED_C_PLAIN,
     FINISH,
     FINISH_PLAIN,
+    ENCODE,
+    DECODE,
+    DISASSEMBLE,
+    ASSEMBLE,
     FUNCTIONS
 };
 
 enum scalar { WORD, VLEN, SEW, LMUL, VL, SCALAR, SCALARS }; /* of EXECUTE; its buffers are vstart and the file */
+enum field { KIND, VM, VS2, VS1, VD };                      /* the scalars of ENCODE; DECODE and DISASSEMBLE have WORD */
 
 /* A buffer that the call is lent: its content, and the part of it that the call must change. */
 struct lent {
@@ -29,7 +34,7 @@ struct lent {
     const uint8_t *content, *change;
 };
 
-#define MAX_LENT 4
+#define MAX_LENT 5
 
 struct call {
     uint32_t function, answer, scalars, buffers;

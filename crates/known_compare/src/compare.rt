@@ -1,5 +1,4 @@
-// Bytes and answers compared with what they should be.
-ghost use mathlib.Core.Bool.{true};
+// Blocks and answers compared with what they should be.
 ghost use mathlib.Core.Path.{_≡_};
 ghost use Rattle.ghash_block.specs.Block.{valueOf};
 ghost use Rattle.gf128.specs.Bytes.{blockBytes};
@@ -8,23 +7,6 @@ use crate::tally::count;
 use ghash_block::answer::Answer;
 use ghash_block::block::Block;
 use ghash_bytes::put_block;
-
-// Whether both are the same bytes.
-pub fn same(a: &[u8], b: &[u8]) -> bool
-    ensures { λ r. ⌜ (r ≡ true → now (a .entry) ≡ now (b .entry)) × (now (a .entry) ≡ now (b .entry) → r ≡ true) ⌝ }
-{
-    if a.len() != b.len() {
-        return false;
-    }
-    let mut i: usize = 0;
-    while i < a.len() {
-        if a[i] != b[i] {
-            return false;
-        }
-        i += 1;
-    }
-    true
-}
 
 // The 16 bytes of a block.
 pub fn block_bytes(b: Block) -> [u8; 16]

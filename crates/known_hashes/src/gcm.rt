@@ -8,9 +8,9 @@ use crate::hashes::hash_answer;
 use crate::pieces::Mix;
 use ghash_bytes::block_at;
 use known_bytes::place::counted_end;
-use known_bytes::place::part_end;
 use known_report::data_file::read;
 use known_report::report::report;
+use octets_slice::part_end;
 
 // The bytes before A.
 const HEAD: usize = 36;

@@ -13,7 +13,7 @@ use ghash_running::Fed;
 use ghash_running::Finished;
 use ghash_state::Running;
 use ghash_step::Path;
-use known_bytes::place::part_end;
+use octets_slice::part_end;
 
 // Which path each call takes.
 pub enum Mix {

@@ -6,7 +6,7 @@ ghost use Rattle.known_words.specs.Call.{numberAt, GroupIs, groupAgrees}
 use crate::call::number_at;
 use known_bytes::pattern::Pattern;
 use known_bytes::pattern::fill;
-use known_compare::compare::same;
+use octets_slice::same;
 use vector_group::group;
 use vector_group::group_read;
 use vector_group::group_refusal;

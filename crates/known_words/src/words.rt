@@ -14,13 +14,13 @@ use crate::call::settings_at;
 use crate::groups;
 use known_bytes::pattern::fill;
 use known_bytes::place::counted_end;
-use known_bytes::place::part_end;
-use known_bytes::place::put;
-use known_compare::compare::same;
 use known_compare::tally::count;
 use known_report::data_file::read;
 use known_report::report::report;
 use octets_le::read_le;
+use octets_slice::part_end;
+use octets_slice::put;
+use octets_slice::same;
 use vector_execute::execute::execute;
 
 // The group of the records that ask for a register group.

@@ -1,9 +1,10 @@
 -- The examples hold (`examples`): one test of an example, computed over the table, and one law that turns the test into what the example
 -- says, as for the marked cases. Assumes nothing.
-use mathlib.Core.Path.{_≡_, refl, sym, ap, ap₂, _∙_}
-use mathlib.Core.Bool.{Bool, true, false, cond, not, _&&_, _||_}
+use mathlib.Core.Path.{_≡_, refl, sym, ap, ap₂, subst, _∙_}
+use mathlib.Core.Bool.{Bool, true, false, true≢false, cond, not, _&&_, _||_}
 use mathlib.Core.List.{List, [], _∷_, _++_}
 use Prim.Native.Nat.{ℕ, _+_, _-_, _/_}
+use borrow.Author.Tests.{eqb-true, eqb-false, eq-eqb}
 use lib.Dec.{T, eqb, ltb, eqb→eq}
 use lib.ListN.{length, getD, replicate}
 use Rattle.octets.specs.BigEndian.{beAt, beBytes}
@@ -19,9 +20,18 @@ use Rattle.vector_registers.specs.declared.settings.Settings.{Settings}
 use Rattle.vector_group.specs.Group.{groupRefusal, partStart, partLength}
 use Rattle.vector_word.specs.declared.Fields.{Fields}
 use Rattle.vector_kind.specs.declared.Kind.the-variants.{VclmulVv, VclmulVx, VclmulhVv, VclmulhVx, VghshVv, VghshVs, VgmulVv, VgmulVs}
+use Rattle.vector_kind.specs.Kinds.{kindNumber}
+use Rattle.vector_word.specs.declared.Encoded.{Encoded}
 use Rattle.vector_word.specs.declared.Word.{Word}
 use Rattle.vector_word.specs.declared.Word.the-variants.{Known, Unknown}
 use Rattle.vector_word.specs.Word.{decode}
+use Rattle.vector_numbers.specs.declared.Decoded.{Decoded}
+use Rattle.vector_numbers.specs.Numbers.{encodedNumbered, decodedNumbered}
+use Rattle.vector_listing.specs.Listing.{listed, listedInto}
+use Rattle.vector_listing.specs.Text.{ascii, text, textOf}
+use Rattle.vector_reader.specs.Reading.{Reads}
+use Rattle.vector_reader.specs.Scan.{kindIn, fieldsIn}
+use Rattle.vector_reader.proofs.Reading.{found, not-a-word, its-text, other-text}
 use Rattle.vector_refusal.specs.Refusal.{refusalOf, refusalOfKnown}
 use Rattle.vector_element.specs.Clmul.{clmul, clmul64}
 use Rattle.octets.specs.LittleEndian.{readLe, writeLe}
@@ -32,8 +42,8 @@ use Rattle.vector_ghash.specs.declared.GhashMultiplier.{GhashMultiplier}
 use Rattle.vector_ghash.specs.declared.GhashMultiplier.the-variants.{YXorX, YAlone}
 use Rattle.vector_ghash.specs.GhashWords.{group, multiplierOf, vvStep, vsStep, ghashVv, ghashVs}
 use Rattle.vector_execute.specs.Execute.{doneKnown, done, executed, vstartAfter}
-use Rattle.theorems.specs.Examples.{Example, call, known, word, question, part, times, hash, backward, out, written, state, feeds, finishes, degree, degreeOfBytes, back, execution, running, file, table, Holds, AllHold, ExamplesHold}
-use Rattle.theorems.proofs.Marked.{same, place, numbersOf, goesBack, same-at, is-word, goes-back}
+use Rattle.theorems.specs.Examples.{Example, call, known, word, encodes, decodes, lists, lists-as, lists-into, reads, question, part, times, hash, backward, out, written, state, feeds, finishes, degree, degreeOfBytes, back, execution, running, file, table, Holds, AllHold, ExamplesHold}
+use Rattle.theorems.proofs.Marked.{same, numbersOf, goesBack, same-at, is-word, goes-back}
 
 -- ---- a call that computes fast: the executor's definition over the product, which is then the quick one
 
@@ -102,6 +112,21 @@ finishNumbers phase k n =
     let s = running 0 phase 0 0 0 0 in
     finishNumber (replicate k 0) s (replicate n 0xA5) ∷ finishState (replicate k 0) s (replicate n 0xA5) .phase ∷ []
 
+-- ---- the words' numbers in a row, and the reader by a test that computes
+
+abbrev wordNumbers : Encoded → List ℕ
+wordNumbers e = e .number ∷ e .word ∷ []
+
+abbrev decodedNumbers : Decoded → List ℕ
+decodedNumbers d = d .number ∷ d .kind ∷ d .fields .vm ∷ d .fields .vs2 ∷ d .fields .vs1 ∷ d .fields .vd ∷ []
+
+-- a text that was taken for a word is read as it, if it is its text
+readBy : List ℕ → Encoded
+readBy s =
+    cond (eqb (found s .number) 0)
+    (cond (same (text (kindIn s) (fieldsIn (kindIn s) s)) s) (found s) (record { number = 2; word = 0 }))
+    (found s)
+
 -- ---- the test
 
 numberOf : Bool → ℕ
@@ -111,7 +136,14 @@ numberOf false = 0
 right : Example → Bool
 right (call fileLength w s number) = eqb (refusalOf fileLength w s) number
 right (known kind vm vd vs2 vs1 s number) = eqb (refusalOfKnown kind (record { vm = vm; vs2 = vs2; vs1 = vs1; vd = vd }) s) number
-right (word w kind vm vd vs2 vs1) = same (numbersOf (decode w)) (place kind ∷ vm ∷ vd ∷ vs2 ∷ vs1 ∷ [])
+right (word w kind vm vd vs2 vs1) = same (numbersOf (decode w)) (kindNumber kind ∷ vm ∷ vd ∷ vs2 ∷ vs1 ∷ [])
+right (encodes kind vm vs2 vs1 vd number w) =
+    same (wordNumbers (encodedNumbered kind (record { vm = vm; vs2 = vs2; vs1 = vs1; vd = vd }))) (number ∷ w ∷ [])
+right (decodes w number kind vm vs2 vs1 vd) = same (decodedNumbers (decodedNumbered w)) (number ∷ kind ∷ vm ∷ vs2 ∷ vs1 ∷ vd ∷ [])
+right (lists w buffer number bytes) = same (listed buffer (decode w) .number ∷ listed buffer (decode w) .length ∷ []) (number ∷ bytes ∷ [])
+right (lists-as w text) = same (textOf (decode w)) (ascii text)
+right (lists-into w before after) = same (listedInto before (decode w)) after
+right (reads text number w) = same (wordNumbers (readBy text)) (number ∷ w ∷ [])
 right (question vlen fileLength lmul register number) = eqb (groupRefusal vlen fileLength lmul register) number
 right (part vlen fileLength lmul register start bytes) =
     same (partStart vlen fileLength lmul register ∷ partLength vlen fileLength lmul register ∷ []) (start ∷ bytes ∷ [])
@@ -145,11 +177,45 @@ same-flag true false t = absurd t
 same-flag false true t = absurd t
 same-flag false false t = refl
 
+same-self : (xs : List ℕ) → same xs xs ≡ true
+unfolding same
+same-self [] = refl
+same-self (x ∷ xs) = rw (eq-eqb x x refl) (same-self xs)
+
+same-word : (e : Encoded) (number w : ℕ) → T (same (wordNumbers e) (number ∷ w ∷ [])) → e ≡ record { number = number; word = w }
+same-word e number w t =
+    let at = same-at (wordNumbers e) (number ∷ w ∷ []) t in λ i. record { number = at 0 i; word = at 1 i }
+
+read-by : (s : List ℕ) → Reads s (readBy s)
+unfolding readBy
+read-by s = go (eqb (found s .number) 0) refl
+  where
+    l : List ℕ
+    l = text (kindIn s) (fieldsIn (kindIn s) s)
+
+    compared : (b : Bool) → same l s ≡ b → found s .number ≡ 0 → Reads s (cond b (found s) (record { number = 2; word = 0 }))
+    compared true e n = its-text s n (sym (same-list l s (subst T (sym e) tt)))
+    compared false e n = other-text s n (λ h. true≢false (sym (same-self l) ∙ ap (same l) (sym h) ∙ e))
+
+    go : (b : Bool) → eqb (found s .number) 0 ≡ b → Reads s (cond b (cond (same l s) (found s) (record { number = 2; word = 0 })) (found s))
+    go true e = compared (same l s) refl (eqb-true (found s .number) 0 e)
+    go false e = not-a-word s (eqb-false (found s .number) 0 e)
+
 shows : (e : Example) → T (right e) → Holds e
 unfolding right
 shows (call fileLength w s number) t = eqb→eq (refusalOf fileLength w s) number t
 shows (known kind vm vd vs2 vs1 s number) t = eqb→eq (refusalOfKnown kind (record { vm = vm; vs2 = vs2; vs1 = vs1; vd = vd }) s) number t
 shows (word w kind vm vd vs2 vs1) t = is-word (decode w) kind vm vd vs2 vs1 t
+shows (encodes kind vm vs2 vs1 vd number w) t = same-word (encodedNumbered kind (record { vm = vm; vs2 = vs2; vs1 = vs1; vd = vd })) number w t
+shows (decodes w number kind vm vs2 vs1 vd) t =
+    let e = same-at (decodedNumbers (decodedNumbered w)) (number ∷ kind ∷ vm ∷ vs2 ∷ vs1 ∷ vd ∷ []) t in
+    λ i. record { number = e 0 i; kind = e 1 i; fields = record { vm = e 2 i; vs2 = e 3 i; vs1 = e 4 i; vd = e 5 i } }
+shows (lists w buffer number bytes) t =
+    let e = same-at (listed buffer (decode w) .number ∷ listed buffer (decode w) .length ∷ []) (number ∷ bytes ∷ []) t in
+    λ i. record { number = e 0 i; length = e 1 i }
+shows (lists-as w text) t = same-list (textOf (decode w)) (ascii text) t
+shows (lists-into w before after) t = same-list (listedInto before (decode w)) after t
+shows (reads text number w) t = subst (Reads text) (same-word (readBy text) number w t) (read-by text)
 shows (question vlen fileLength lmul register number) t = eqb→eq (groupRefusal vlen fileLength lmul register) number t
 shows (part vlen fileLength lmul register start bytes) t =
     let e = same-at (partStart vlen fileLength lmul register ∷ partLength vlen fileLength lmul register ∷ []) (start ∷ bytes ∷ []) t in
@@ -195,5 +261,5 @@ all-show [] t = tt
 all-show (e ∷ es) t = (shows e (and-left (right e) (allRight es) t), all-show es (and-right (right e) (allRight es) t))
 
 pub examples : ExamplesHold
-unfolding table allRight right same finished place numbersOf goesBack decode refusalOf refusalOfKnown groupRefusal numberOf file quickXOf quickSteps quickProduct beAt beBytes highest degreeOf coeffOf executedBy doneBy ghashBy steps clmul clmul64 readLe writeLe maskBit carrylessResult carrylessStep carryless
+unfolding table allRight right same finished numbersOf readBy text fieldsIn goesBack decode refusalOf refusalOfKnown groupRefusal numberOf file quickXOf quickSteps quickProduct beAt beBytes highest degreeOf coeffOf executedBy doneBy ghashBy steps clmul clmul64 readLe writeLe maskBit carrylessResult carrylessStep carryless
 examples = record { rows = refl; all = all-show table tt }

@@ -18,6 +18,7 @@ use Rattle.gf128.proofs.Tests.{and-left, and-right}
 use Rattle.gf128.proofs.StepBack.{steps-to, steps-none, steps-many}
 use Rattle.vector_kind.specs.declared.Kind.{Kind}
 use Rattle.vector_kind.specs.declared.Kind.the-variants.{VclmulVv, VclmulVx, VclmulhVv, VclmulhVx, VghshVv, VghshVs, VgmulVv, VgmulVs}
+use Rattle.vector_kind.specs.Kinds.{kindNumber}
 use Rattle.vector_word.specs.declared.Word.{Word}
 use Rattle.vector_word.specs.declared.Word.the-variants.{Known, Unknown}
 use Rattle.vector_word.specs.Word.{decode, kinds}
@@ -32,19 +33,8 @@ same [] (y ∷ ys) = false
 same (x ∷ xs) [] = false
 same (x ∷ xs) (y ∷ ys) = eqb x y && same xs ys
 
--- a kind's place in the table of the words
-unfoldable pub place : Kind → ℕ
-place VclmulVv = 0
-place VclmulVx = 1
-place VclmulhVv = 2
-place VclmulhVx = 3
-place VghshVv = 4
-place VghshVs = 5
-place VgmulVv = 6
-place VgmulVs = 7
-
 unfoldable pub numbersOf : Word → List ℕ
-numbersOf (Known k f) = place k ∷ f .vm ∷ f .vd ∷ f .vs2 ∷ f .vs1 ∷ []
+numbersOf (Known k f) = kindNumber k ∷ f .vm ∷ f .vd ∷ f .vs2 ∷ f .vs1 ∷ []
 numbersOf Unknown = []
 
 -- what a number has above a block's 128 digits
@@ -61,7 +51,7 @@ right : Case → Bool
 right (carryless sew a b low high) = same (lowHalf sew (clmul64 a b) ∷ highHalf sew (clmul64 a b) ∷ []) (low ∷ high ∷ [])
 right (times u h p) = same (quickProduct u h ∷ []) (p ∷ [])
 right (back h x y1 number block) = goesBack (eqb h 0) (eqb y1 0) h x y1 number block
-right (word w kind vm vd vs2 vs1) = same (numbersOf (decode w)) (place kind ∷ vm ∷ vd ∷ vs2 ∷ vs1 ∷ [])
+right (word w kind vm vd vs2 vs1) = same (numbersOf (decode w)) (kindNumber kind ∷ vm ∷ vd ∷ vs2 ∷ vs1 ∷ [])
 right (hash h a c block) = same (quickGhash h a c ∷ []) (block ∷ [])
 
 -- ---- what the test shows
@@ -74,8 +64,7 @@ same-at (x ∷ xs) [] t n = absurd t
 same-at (x ∷ xs) (y ∷ ys) t zero = eqb→eq x y (and-left (eqb x y) (same xs ys) t)
 same-at (x ∷ xs) (y ∷ ys) t (suc n) = same-at xs ys (and-right (eqb x y) (same xs ys) t) n
 
-at-place : (k : Kind) → getD kinds (place k) VclmulVv ≡ k
-unfolding place
+at-place : (k : Kind) → getD kinds (kindNumber k) VclmulVv ≡ k
 at-place VclmulVv = refl
 at-place VclmulVx = refl
 at-place VclmulhVv = refl
@@ -85,11 +74,11 @@ at-place VghshVs = refl
 at-place VgmulVv = refl
 at-place VgmulVs = refl
 
-pub is-word : (w : Word) (k : Kind) (vm vd vs2 vs1 : ℕ) → T (same (numbersOf w) (place k ∷ vm ∷ vd ∷ vs2 ∷ vs1 ∷ []))
+pub is-word : (w : Word) (k : Kind) (vm vd vs2 vs1 : ℕ) → T (same (numbersOf w) (kindNumber k ∷ vm ∷ vd ∷ vs2 ∷ vs1 ∷ []))
     → w ≡ Known k (record { vm = vm; vs2 = vs2; vs1 = vs1; vd = vd })
 unfolding numbersOf same
 is-word (Known j f) k vm vd vs2 vs1 t =
-    let e = same-at (place j ∷ f .vm ∷ f .vd ∷ f .vs2 ∷ f .vs1 ∷ []) (place k ∷ vm ∷ vd ∷ vs2 ∷ vs1 ∷ []) t in
+    let e = same-at (kindNumber j ∷ f .vm ∷ f .vd ∷ f .vs2 ∷ f .vs1 ∷ []) (kindNumber k ∷ vm ∷ vd ∷ vs2 ∷ vs1 ∷ []) t in
     let kind : j ≡ k = sym (at-place j) ∙ ap (λ (n : ℕ). getD kinds n VclmulVv) (e 0) ∙ at-place k in
     λ i. Known (kind i) (record { vm = e 1 i; vs2 = e 3 i; vs1 = e 4 i; vd = e 2 i })
 is-word Unknown k vm vd vs2 vs1 t = absurd t
@@ -135,5 +124,5 @@ all-show [] t = tt
 all-show (c ∷ cs) t = (shows c (and-left (right c) (allRight cs) t), all-show cs (and-right (right c) (allRight cs) t))
 
 pub marked : MarkedCasesHold
-unfolding table allRight right goesBack numbersOf place same quickXOf quickSteps quickProduct quickOver quickGhash beAt blocksFrom blocksOf lengthBlock messageOf decode clmul clmul64
+unfolding table allRight right goesBack numbersOf same quickXOf quickSteps quickProduct quickOver quickGhash beAt blocksFrom blocksOf lengthBlock messageOf decode clmul clmul64
 marked = record { rows = refl; all = all-show table tt }

@@ -1,8 +1,7 @@
 -- Register groups of words that are not refused: a group lies in the file, and two groups are equal or apart, so that bytes of another
 -- group are never among those of the units written before (`unread`).
 -- Assumes nothing.
-use mathlib.Core.Bool.{Bool, true, false, cond, not, _||_}
-use mathlib.Core.List.{List, [], _∷_}
+use mathlib.Core.Bool.{true, false, not, _||_}
 use mathlib.Core.Logic.{⊎-elim}
 use mathlib.Core.Path.{_≡_, refl, sym, ap, subst}
 use Prim.Native.Nat.{ℕ, _+_, _*_, _/_, _%_, _^_, _<_, _≤_}
@@ -16,10 +15,11 @@ use Rattle.vector_word.specs.declared.Fields.{Fields}
 use Rattle.vector_kind.specs.declared.Kind.{Kind}
 use Rattle.vector_word.specs.declared.Word.the-variants.{Known}
 use Rattle.vector_registers.specs.Settings.{applies1, applies3, registerBytes, fileBytes, groupRegisters, groupLength, timesLmul, vlenAllowed, sewAllowed, lmulAllowed, vlmax, misaligned}
-use Rattle.vector_word.specs.Word.{among, kinds, decode, isRow, row, fieldsOf}
+use Rattle.vector_word.specs.Word.{kinds, decode}
 use Rattle.vector_registers.proofs.Allowed.{each-vlen, each-sew, each-group, times-lmul}
 use Rattle.vector_group.proofs.Groups.{last-register, registers-within}
 use Rattle.vector_word.proofs.Tests.{or-false}
+use Rattle.vector_word.proofs.Writer.{among-row}
 use Rattle.vector_element.proofs.Sew.{sew-facts}
 use Rattle.theorems.specs.Execution.{Within}
 
@@ -109,18 +109,10 @@ pub record Numbers (f : Fields) : Type 0 where
   pub vs1-small : f .vs1 ≤ 31
   pub vs2-small : f .vs2 ≤ 31
 
-among-fields : (ks : List Kind) (word : ℕ) {k : Kind} {f : Fields} → among ks word ≡ Known k f → fieldsOf word ≡ f
-among-fields [] word e = cc
-among-fields (a ∷ ks) word {k} {f} e = go (isRow (row a) word) (among-fields ks word) e
-  where
-    go : (b : Bool) → (among ks word ≡ Known k f → fieldsOf word ≡ f) → cond b (Known a (fieldsOf word)) (among ks word) ≡ Known k f → fieldsOf word ≡ f
-    go true rest e = cc
-    go false rest e = rest e
-
 pub numbers : (word : ℕ) {k : Kind} {f : Fields} → decode word ≡ Known k f → Numbers f
 unfolding decode
 numbers word {k} {f} e =
-    subst Numbers (among-fields kinds word e)
+    subst Numbers (among-row kinds word e .1)
     (record {
       vm-small = le-of-suc-le-suc (mod-lt (word / 2 ^ 25) (zero-lt-suc 1));
       vd-small = le-of-suc-le-suc (mod-lt (word / 2 ^ 7) (zero-lt-suc 31));

@@ -1,7 +1,9 @@
--- Examples of the written rules, as one table with one statement, `ExamplesHold`: each refusal number of document 01 on both sides of its
--- limit, each clause of "malformed", and words with the bytes that they leave. A rule that is changed here or there no longer fits its row.
+-- Examples of the written rules, as one table with one statement, `ExamplesHold`: each refusal number of documents 01 and 02 on both sides of
+-- its limit, each clause of "malformed", words with their texts and with the bytes that they leave. A rule that is changed here or there no
+-- longer fits its row.
 -- Assumes nothing.
 use Prim.Native.Nat.{ℕ, _*_}
+use Prim.Native.String.{String}
 use mathlib.Core.Path.{_≡_}
 use mathlib.Core.Bool.{Bool, true, false}
 use mathlib.Core.List.{List, [], _∷_, _++_}
@@ -18,6 +20,10 @@ use Rattle.vector_kind.specs.declared.Kind.{Kind}
 use Rattle.vector_kind.specs.declared.Kind.the-variants.{VclmulVv, VclmulVx, VclmulhVv, VclmulhVx, VghshVv, VghshVs, VgmulVv, VgmulVs}
 use Rattle.vector_word.specs.declared.Word.the-variants.{Known}
 use Rattle.vector_word.specs.Word.{decode}
+use Rattle.vector_numbers.specs.Numbers.{encodedNumbered, decodedNumbered}
+use Rattle.vector_listing.specs.Listing.{listed, listedInto}
+use Rattle.vector_listing.specs.Text.{ascii, textOf}
+use Rattle.vector_reader.specs.Reading.{Reads}
 use Rattle.vector_refusal.specs.Refusal.{refusalOf, refusalOfKnown}
 use Rattle.vector_execute.specs.Execute.{executed, vstartAfter}
 
@@ -41,6 +47,18 @@ pub data Example : Type 0 where
   known : (kind : Kind) → (vm vd vs2 vs1 : ℕ) → (s : Settings) → (number : ℕ) → Example
   -- a word, its kind and its fields
   word : (w : ℕ) → (kind : Kind) → (vm vd vs2 vs1 : ℕ) → Example
+  -- a kind's number and fields, and the number and the word that the writer answers
+  encodes : (kind vm vs2 vs1 vd number w : ℕ) → Example
+  -- a word, and the number, the kind's number and the fields that the decoder answers
+  decodes : (w number kind vm vs2 vs1 vd : ℕ) → Example
+  -- a word and a buffer's length, and the number and the text's length that the listing answers
+  lists : (w buffer number bytes : ℕ) → Example
+  -- a word and its text
+  lists-as : (w : ℕ) → (text : String) → Example
+  -- a word and a buffer, and the buffer after the listing
+  lists-into : (w : ℕ) → (before after : List ℕ) → Example
+  -- a text, and the number and the word that the reader answers
+  reads : (text : List ℕ) → (number w : ℕ) → Example
   -- the question for a register group
   question : (vlen fileLength lmul register number : ℕ) → Example
   -- the same question, and the start and the length of the part that is handed back
@@ -76,6 +94,13 @@ abbrev pub Holds : Example → Type 0
 Holds (call fileLength w s number) = refusalOf fileLength w s ≡ number
 Holds (known kind vm vd vs2 vs1 s number) = refusalOfKnown kind (record { vm = vm; vs2 = vs2; vs1 = vs1; vd = vd }) s ≡ number
 Holds (word w kind vm vd vs2 vs1) = decode w ≡ Known kind (record { vm = vm; vs2 = vs2; vs1 = vs1; vd = vd })
+Holds (encodes kind vm vs2 vs1 vd number w) = encodedNumbered kind (record { vm = vm; vs2 = vs2; vs1 = vs1; vd = vd }) ≡ record { number = number; word = w }
+Holds (decodes w number kind vm vs2 vs1 vd) =
+    decodedNumbered w ≡ record { number = number; kind = kind; fields = record { vm = vm; vs2 = vs2; vs1 = vs1; vd = vd } }
+Holds (lists w buffer number bytes) = listed buffer (decode w) ≡ record { number = number; length = bytes }
+Holds (lists-as w text) = textOf (decode w) ≡ ascii text
+Holds (lists-into w before after) = listedInto before (decode w) ≡ after
+Holds (reads text number w) = Reads text (record { number = number; word = w })
 Holds (question vlen fileLength lmul register number) = groupRefusal vlen fileLength lmul register ≡ number
 Holds (part vlen fileLength lmul register start bytes) = (partStart vlen fileLength lmul register ≡ start) × (partLength vlen fileLength lmul register ≡ bytes)
 Holds (times k b number) = (key block : List ℕ) → length key ≡ k → length block ≡ b → productRefusal key block ≡ number
@@ -139,6 +164,120 @@ table =
     ∷ call 512 0xA488A277 (settings 128 32 1 4 0) 2
     ∷ call 512 0xA2882277 (settings 128 32 1 4 0) 2
     ∷ call 512 0xA680A277 (settings 128 32 1 4 0) 2
+    -- 2 of the writer: a kind over 7, a vm over 1, a register over 31, and a vm or a vs1 field that the row does not allow
+    ∷ encodes 0 1 8 12 4 0 0x32862257
+    ∷ encodes 1 1 8 12 4 0 0x32866257
+    ∷ encodes 2 1 8 12 4 0 0x36862257
+    ∷ encodes 3 1 8 12 4 0 0x36866257
+    ∷ encodes 4 1 8 12 4 0 0xB2862277
+    ∷ encodes 5 1 8 12 4 0 0x8E862277
+    ∷ encodes 6 1 8 17 4 0 0xA288A277
+    ∷ encodes 7 1 8 17 4 0 0xA688A277
+    ∷ encodes 0 0 8 12 4 0 0x30862257
+    ∷ encodes 1 0 8 12 4 0 0x30866257
+    ∷ encodes 2 0 8 12 4 0 0x34862257
+    ∷ encodes 3 0 8 12 4 0 0x34866257
+    ∷ encodes 4 0 8 12 4 2 0
+    ∷ encodes 5 0 8 12 4 2 0
+    ∷ encodes 6 0 8 17 4 2 0
+    ∷ encodes 7 0 8 17 4 2 0
+    ∷ encodes 8 1 8 12 4 2 0
+    ∷ encodes 0 2 8 12 4 2 0
+    ∷ encodes 4 2 8 12 4 2 0
+    ∷ encodes 0 1 31 31 31 0 0x33FFAFD7
+    ∷ encodes 0 1 32 31 31 2 0
+    ∷ encodes 0 1 31 32 31 2 0
+    ∷ encodes 0 1 31 31 32 2 0
+    ∷ encodes 3 1 31 31 31 0 0x37FFEFD7
+    ∷ encodes 3 1 32 31 31 2 0
+    ∷ encodes 3 1 31 32 31 2 0
+    ∷ encodes 3 1 31 31 32 2 0
+    ∷ encodes 4 1 31 31 31 0 0xB3FFAFF7
+    ∷ encodes 4 1 32 31 31 2 0
+    ∷ encodes 4 1 31 32 31 2 0
+    ∷ encodes 4 1 31 31 32 2 0
+    ∷ encodes 6 1 8 16 4 2 0
+    ∷ encodes 6 1 8 18 4 2 0
+    ∷ encodes 6 1 31 17 0 0 0xA3F8A077
+    ∷ encodes 6 1 32 17 0 2 0
+    ∷ encodes 6 1 31 17 32 2 0
+    ∷ encodes 7 1 8 16 4 2 0
+    ∷ encodes 7 1 8 18 4 2 0
+    ∷ encodes 7 1 31 17 0 0 0xA7F8A077
+    ∷ encodes 7 1 32 17 0 2 0
+    ∷ encodes 7 1 31 17 32 2 0
+    -- the decoder by number; zeros where the word is none of the eight
+    ∷ decodes 0x32862257 0 0 1 8 12 4
+    ∷ decodes 0x32866257 0 1 1 8 12 4
+    ∷ decodes 0x36862257 0 2 1 8 12 4
+    ∷ decodes 0x36866257 0 3 1 8 12 4
+    ∷ decodes 0xB2862277 0 4 1 8 12 4
+    ∷ decodes 0x8E862277 0 5 1 8 12 4
+    ∷ decodes 0xA288A277 0 6 1 8 17 4
+    ∷ decodes 0xA688A277 0 7 1 8 17 4
+    ∷ decodes 0x341121D7 0 2 0 1 2 3
+    ∷ decodes 0x00000000 2 0 0 0 0 0
+    ∷ decodes 0xFFFFFFFF 2 0 0 0 0 0
+    ∷ decodes 0xB0862277 2 0 0 0 0 0
+    -- 22: a buffer under 32 bytes; 2 comes before it
+    ∷ lists 0xB2862277 32 0 20
+    ∷ lists 0xB2862277 31 22 0
+    ∷ lists 0xB2862277 33 0 20
+    ∷ lists 0xB2862277 0 22 0
+    ∷ lists 0x3221E0D7 32 0 20
+    ∷ lists 0x00000000 32 2 0
+    ∷ lists 0x00000000 31 2 0
+    ∷ lists 0xB0862277 0 2 0
+    -- the longest text has 30 bytes, the shortest 15
+    ∷ lists 0x35FFEFD7 32 0 30
+    ∷ lists 0xA208A077 32 0 15
+    -- K12 and the other word of document 01, and a text of each kind, with and without a mask
+    ∷ lists-as 0xB2862277 "vghsh.vv v4, v8, v12"
+    ∷ lists-as 0x3221E0D7 "vclmul.vx v1, v2, x3"
+    ∷ lists-as 0x32A4A5D7 "vclmul.vv v11, v10, v9"
+    ∷ lists-as 0x301FAF57 "vclmul.vv v30, v1, v31, v0.t"
+    ∷ lists-as 0x314069D7 "vclmul.vx v19, v20, x0, v0.t"
+    ∷ lists-as 0x3621A0D7 "vclmulh.vv v1, v2, v3"
+    ∷ lists-as 0x35DF2FD7 "vclmulh.vv v31, v29, v30, v0.t"
+    ∷ lists-as 0x37FFEFD7 "vclmulh.vx v31, v31, x31"
+    ∷ lists-as 0x35FFEFD7 "vclmulh.vx v31, v31, x31, v0.t"
+    ∷ lists-as 0xB2002077 "vghsh.vv v0, v0, v0"
+    ∷ lists-as 0x8E862277 "vghsh.vs v4, v8, v12"
+    ∷ lists-as 0xA288A277 "vgmul.vv v4, v8"
+    ∷ lists-as 0xA698A577 "vgmul.vs v10, v9"
+    -- the buffer: the text and every later byte; a refusal writes nothing
+    ∷ lists-into 0xB2862277 (replicate 33 0xA5) (ascii "vghsh.vv v4, v8, v12" ++ replicate 13 0xA5)
+    ∷ lists-into 0xB2862277 (replicate 31 0xA5) (replicate 31 0xA5)
+    ∷ lists-into 0x00000000 (replicate 33 0xA5) (replicate 33 0xA5)
+    -- the reader: exactly these texts
+    ∷ reads (ascii "vghsh.vv v4, v8, v12") 0 0xB2862277
+    ∷ reads (ascii "vclmul.vx v1, v2, x3") 0 0x3221E0D7
+    ∷ reads (ascii "vclmul.vv v30, v1, v31, v0.t") 0 0x301FAF57
+    ∷ reads (ascii "vclmulh.vv v1, v2, v3") 0 0x3621A0D7
+    ∷ reads (ascii "vclmulh.vx v31, v31, x31, v0.t") 0 0x35FFEFD7
+    ∷ reads (ascii "vghsh.vs v4, v8, v12") 0 0x8E862277
+    ∷ reads (ascii "vgmul.vv v4, v8") 0 0xA288A277
+    ∷ reads (ascii "vgmul.vs v10, v9") 0 0xA698A577
+    ∷ reads (ascii "vghsh.vv v04, v8, v12") 2 0
+    ∷ reads (ascii "vghsh.vv v4, v8, v32") 2 0
+    ∷ reads (ascii "vghsh.vv v4, v8, v100") 2 0
+    ∷ reads (ascii "vghsh.vv v4, v8, v12 ") 2 0
+    ∷ reads (ascii " vghsh.vv v4, v8, v12") 2 0
+    ∷ reads (ascii "vghsh.vv  v4, v8, v12") 2 0
+    ∷ reads (ascii "vghsh.vv v4,v8, v12") 2 0
+    ∷ reads (ascii "vghsh.vv v4, v8, x12") 2 0
+    ∷ reads (ascii "vclmul.vx v1, v2, v3") 2 0
+    ∷ reads (ascii "vghsh.vv v4, v8, v12, v0.t") 2 0
+    ∷ reads (ascii "vghsh.vv v4, v8") 2 0
+    ∷ reads (ascii "vgmul.vv v4, v8, v17") 2 0
+    ∷ reads (ascii "vghsh.vx v4, v8, x12") 2 0
+    ∷ reads (ascii "VGHSH.VV v4, v8, v12") 2 0
+    ∷ reads (ascii "vghsh.vv v4, v8, v:") 2 0
+    ∷ reads (ascii "vclmul.vv v1, v2, v3, v0") 2 0
+    ∷ reads (ascii "vclmul.vv v1, v2, v3, v0.t, v0.t") 2 0
+    ∷ reads (ascii "") 2 0
+    ∷ reads (ascii "vghsh.vv v4, v8, v12" ++ 0x0A ∷ []) 2 0
+    ∷ reads (ascii "vghsh.vv v4, v8, v12" ++ 0x00 ∷ []) 2 0
     -- 3: SEW or LMUL not allowed, or vl over VLMAX
     ∷ known VclmulVv 1 8 16 24 (settings 128 8 1 16 0) 0
     ∷ known VclmulVv 1 8 16 24 (settings 128 8 1 17 0) 3
@@ -459,5 +598,5 @@ AllHold (e ∷ es) = Holds e × AllHold es
 
 -- the statement: the rows are so many, and all of them hold
 pub record ExamplesHold : Type 0 where
-  pub rows : length table ≡ 284
+  pub rows : length table ≡ 391
   pub all : AllHold table

@@ -1,5 +1,6 @@
 -- What tells the eight kinds of word apart beside their encoding, as one table with a row a kind. Refusals and execution ask it.
 -- Assumes nothing.
+use Prim.Native.Nat.{ℕ}
 use mathlib.Core.Bool.{Bool, true, false}
 use Rattle.vector_kind.specs.declared.Kind.{Kind}
 use Rattle.vector_kind.specs.declared.Kind.the-variants.{VclmulVv, VclmulVx, VclmulhVv, VclmulhVx, VghshVv, VghshVs, VgmulVv, VgmulVs}
@@ -53,3 +54,15 @@ isVs k = vectorScalar (traits k .form)
 
 abbrev pub hasVs1Group : Kind → Bool
 hasVs1Group k = traits k .«vs1_group»
+
+-- ---- the kinds' numbers, for callers in C
+
+abbrev pub kindNumber : Kind → ℕ
+kindNumber VclmulVv = 0
+kindNumber VclmulVx = 1
+kindNumber VclmulhVv = 2
+kindNumber VclmulhVx = 3
+kindNumber VghshVv = 4
+kindNumber VghshVs = 5
+kindNumber VgmulVv = 6
+kindNumber VgmulVs = 7

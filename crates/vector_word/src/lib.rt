@@ -1,6 +1,8 @@
 // The eight words and their fields: document 01, "The eight words".
 ghost use mathlib.Core.Path.{_≡_};
+ghost use Prim.Native.Nat.{_<_};
 ghost use Rattle.vector_word.specs.Word.{rowWith, row, allows, isRow, fieldsOf, asKind, decode};
+ghost use Rattle.vector_word.specs.Writer.{admits, wordOf, Narrow, encoded};
 use vector_kind::Kind;
 
 // The fields that a word of any kind has; vs1 is rs1 in a .vx word.
@@ -116,7 +118,7 @@ fn as_kind(k: Kind, word: u32, other: Word) -> Word
     other
 }
 
-// The kind of a word and its fields. The rows are tried from the last to the first, so the first that fits decides.
+// The kind of a word and its fields. The rows are tried from the last to the first, so the first that admits decides.
 pub fn decode(word: u32) -> Word
     ensures { λ r. ⌜ r ≡ decode word ⌝ }
 {
@@ -128,4 +130,62 @@ pub fn decode(word: u32) -> Word
     let w = as_kind(Kind::VclmulhVv, word, w);
     let w = as_kind(Kind::VclmulVx, word, w);
     as_kind(Kind::VclmulVv, word, w)
+}
+
+// What the writer answers: the number, and the word, which is 0 where the number is not.
+pub struct Encoded {
+    pub number: u32,
+    pub word: u32,
+}
+
+// Whether a word with this row can have these fields.
+fn admits(r: Row, f: Fields) -> bool
+    ensures { λ a. ⌜ a ≡ admits r f ⌝ }
+{
+    let vm = r.vm;
+    let vs1 = r.vs1;
+    if 2 <= f.vm {
+        return false;
+    }
+    if 32 <= f.vs2 {
+        return false;
+    }
+    if 32 <= f.vs1 {
+        return false;
+    }
+    if 32 <= f.vd {
+        return false;
+    }
+    if !allows(vm, f.vm) {
+        return false;
+    }
+    allows(vs1, f.vs1)
+}
+
+// The row's and the given fields, each at its place.
+fn word_of(r: Row, f: Fields) -> u32
+    requires { ⌜ Narrow r f ⌝ }
+    ensures { λ w. ⌜ w ≡ wordOf r f ⌝ }
+{
+    r.funct6 * 0x400_0000
+        + f.vm * 0x200_0000
+        + f.vs2 * 0x10_0000
+        + f.vs1 * 0x8000
+        + r.funct3 * 0x1000
+        + f.vd * 0x80
+        + r.opcode
+}
+
+// The writer: the word of this kind with these fields, or 2.
+pub fn encode(k: Kind, f: Fields) -> Encoded
+    ensures { λ r. ⌜ r ≡ encoded k f ⌝ }
+{
+    let r = row_of(k);
+    if !admits(r, f) {
+        return Encoded { number: 2, word: 0 };
+    }
+    Encoded {
+        number: 0,
+        word: word_of(r, f),
+    }
 }

@@ -30,6 +30,12 @@ extern "C" {
     pub fn rvghash_group(
         vlen: u32, file_len: usize, lmul: u32, reg: u32, start: *mut usize, length: *mut usize,
     ) -> u32;
+    pub fn rvghash_encode(kind: u32, vm: u32, vs2: u32, vs1: u32, vd: u32, word: *mut u32) -> u32;
+    pub fn rvghash_decode(
+        word: u32, kind: *mut u32, vm: *mut u32, vs2: *mut u32, vs1: *mut u32, vd: *mut u32,
+    ) -> u32;
+    pub fn rvghash_disassemble(word: u32, text: *mut u8, text_len: usize, length: *mut usize) -> u32;
+    pub fn rvghash_assemble(text: *const u8, text_len: usize, word: *mut u32) -> u32;
     fn rvghash_product_plain(
         key: *const u8, key_len: usize, block: *const u8, block_len: usize, out: *mut u8, out_len: usize,
     ) -> u32;

@@ -155,3 +155,11 @@ pub fn huge(len: usize) -> Option<&'static [u8]> {
     // SAFETY: the mapping is never taken back and never written.
     Some(unsafe { slice::from_raw_parts(start, len) })
 }
+
+/// The same, but the first page can be written as well.
+pub fn huge_with_front(len: usize) -> Option<*mut u8> {
+    let start = map(len, PROT_READ, MAP_NORESERVE)?;
+    // SAFETY: the page lies inside the mapping made above.
+    let done = unsafe { mprotect(start.cast(), page_size(), PROT_READ | PROT_WRITE) };
+    (done == 0).then_some(start)
+}

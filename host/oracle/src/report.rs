@@ -141,6 +141,16 @@ impl Debug for Bytes {
     }
 }
 
+/// Bytes, shown as text.
+#[derive(Clone, PartialEq)]
+pub struct Text(pub Vec<u8>);
+
+impl Debug for Text {
+    fn fmt(&self, f: &mut Formatter) -> fmt::Result {
+        write!(f, "{} bytes \"{}\"", self.0.len(), self.0.escape_ascii())
+    }
+}
+
 /// A number, shown in hexadecimal.
 #[derive(Clone, Copy, PartialEq)]
 pub struct Hex(pub u64);

@@ -1,5 +1,5 @@
-//! The model against document 01 itself, without the library: the marked cases, the example words, published GHASH
-//! values, and each of the model's methods against another one.
+//! The model against document 01 itself, without the library: the marked cases, the example words and their texts,
+//! published GHASH values, and each of the model's methods against another one.
 
 use crate::model::execute::{execute, Request};
 use crate::model::field::{from_bits, inverse, single, times, to_bits, Block, ONE, ZERO};
@@ -7,8 +7,11 @@ use crate::model::hash::ghash;
 use crate::model::linear::Solutions;
 use crate::model::running::{transition, Call, Fed, FRESH};
 use crate::model::step_back::{earlier, step_back_call};
+use crate::model::text::{assemble_call, listing, LEAST_BUFFER};
 use crate::model::word::{decode, Kind, Word, TABLE};
+use crate::model::writer::{decode_call, encode, Fields};
 use crate::rng::Rng;
+use std::collections::HashMap;
 
 /// Runs all checks; false if one fails.
 pub fn run(seed: u64) -> bool {
@@ -17,6 +20,7 @@ pub fn run(seed: u64) -> bool {
     checks.extend(published());
     checks.push(("the example words", example_words()));
     checks.push(("mask and match against the table of fields", decoder_follows_table(&mut rng)));
+    checks.extend(texts(&mut rng));
     checks.push(("coefficient k is bit 7 - k mod 8 of byte k div 8", places()));
     checks.push(("the product against the bit-by-bit rule", product_follows_rule(&mut rng)));
     checks.push(("the inverse by power against the linear system", inverses(&mut rng)));
@@ -146,6 +150,90 @@ fn decoder_follows_table(rng: &mut Rng) -> bool {
         let damaged = word ^ 1 << rng.below(32);
         decode(word).map_or(false, |w| w.kind == row.kind && (w.vs2, w.vd) == (vs2, vd))
             && [word, damaged, rng.u32()].iter().all(|&w| decode(w) == by_fields(w))
+    })
+}
+
+/// A word of each kind with its text and fields, put together by hand from document 01's table.
+#[rustfmt::skip]
+const KNOWN_TEXTS: [(u32, &str, [u32; 5]); 10] = [
+    (0xB286_2277, "vghsh.vv v4, v8, v12", [4, 1, 8, 12, 4]),
+    (0x3221_E0D7, "vclmul.vx v1, v2, x3", [1, 1, 2, 3, 1]),
+    (0x3294_2557, "vclmul.vv v10, v9, v8", [0, 1, 9, 8, 10]),
+    (0x3694_2557, "vclmulh.vv v10, v9, v8", [2, 1, 9, 8, 10]),
+    (0x3695_6557, "vclmulh.vx v10, v9, x10", [3, 1, 9, 10, 10]),
+    (0x8E94_2577, "vghsh.vs v10, v9, v8", [5, 1, 9, 8, 10]),
+    (0xA298_A577, "vgmul.vv v10, v9", [6, 1, 9, 17, 10]),
+    (0xA698_A577, "vgmul.vs v10, v9", [7, 1, 9, 17, 10]),
+    (0x3000_6057, "vclmul.vx v0, v0, x0, v0.t", [1, 0, 0, 0, 0]),
+    (0x35FF_AFD7, "vclmulh.vv v31, v31, v31, v0.t", [2, 0, 31, 31, 31]),
+];
+
+/// The writer, the listing and the reader.
+fn texts(rng: &mut Rng) -> Vec<Check> {
+    let known = KNOWN_TEXTS.iter().all(|&(word, text, numbers)| {
+        let fields = Fields::new(numbers);
+        encode(&fields) == Some(word)
+            && decode_call(word) == (0, fields)
+            && decode(word).map_or(false, |w| listing(&w) == text)
+            && assemble_call(text.as_bytes()) == (0, word)
+    });
+    let all = all_texts();
+    let longest = all.keys().map(|text| text.len()).max();
+    vec![
+        ("known words and texts", known),
+        ("the writer's digits against the decoder", writer_follows_decoder(rng)),
+        ("no two words have the same text", all.len() == WORDS),
+        ("the longest text has 30 bytes", longest == Some(30) && longest <= Some(LEAST_BUFFER)),
+        ("the reader against a list of all texts", reader_follows_list(rng, &all)),
+    ]
+}
+
+/// Fields are written exactly where the word with them is decoded to them again, and none that is too large.
+fn writer_follows_decoder(rng: &mut Rng) -> bool {
+    (0..20_000).all(|_| {
+        let sizes = [8, 2, 32, 32, 32];
+        let [kind, vm, vs2, any, vd] = sizes.map(|n| rng.below_u32(n));
+        let fields = Fields::new([kind, vm, vs2, rng.pick(&[any, 0b10001]), vd]);
+        let word = TABLE[kind as usize].with(vm, vs2, fields.vs1, vd);
+        let mut too_large = fields.numbers();
+        let place = rng.below(5);
+        too_large[place] += sizes[place] << rng.below(26);
+        let written = encode(&fields);
+        written == (decode_call(word) == (0, fields)).then_some(word) && encode(&Fields::new(too_large)).is_none()
+    })
+}
+
+/// How many words there are: four kinds leave vm and three registers open, two the registers alone, and two vd and vs2.
+const WORDS: usize = (4 * 2 + 2) * 32 * 32 * 32 + 2 * 32 * 32;
+
+/// The text of every word that the rows of the table make.
+fn all_texts() -> HashMap<String, u32> {
+    let mut all = HashMap::with_capacity(WORDS);
+    for row in &TABLE {
+        for vm in 0..row.vm.map_or(2, |_| 1) {
+            for vs1 in 0..row.vs1.map_or(32, |_| 1) {
+                for vs2_vd in 0..32 * 32 {
+                    let word = row.encode(vm, vs2_vd / 32, vs1, vs2_vd % 32);
+                    all.insert(listing(&decode(word).expect("a word of this row")), word);
+                }
+            }
+        }
+    }
+    all
+}
+
+/// A text is read exactly when it is in the list, whole or with a byte changed or dropped.
+fn reader_follows_list(rng: &mut Rng, all: &HashMap<String, u32>) -> bool {
+    let listed = |text: &str| all.get(text).map_or((2, 0), |&word| (0, word));
+    (0..20_000).all(|_| {
+        let [vm, vs2, vs1, vd] = [2, 32, 32, 32].map(|n| rng.below_u32(n));
+        let word = TABLE[rng.below(8)].encode(vm, vs2, vs1, vd);
+        let text = listing(&decode(word).expect("a word of this row"));
+        let (place, byte) = (rng.below(text.len()), rng.pick(b" ,.0123456789vx"));
+        let changed = format!("{}{}{}", &text[..place], byte as char, &text[place + 1..]);
+        let dropped = format!("{}{}", &text[..place], &text[place + 1..]);
+        assemble_call(text.as_bytes()) == (0, word)
+            && [changed, dropped].iter().all(|t| assemble_call(t.as_bytes()) == listed(t))
     })
 }
 

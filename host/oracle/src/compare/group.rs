@@ -38,12 +38,12 @@ impl Memory {
     }
 }
 
-fn lend_number(lent: &mut Lent, rng: &mut Rng) -> *mut usize {
+pub fn lend_number(lent: &mut Lent, rng: &mut Rng) -> *mut usize {
     let before = rng.u64() as usize;
     lent.lend_aligned(rng, &before.to_ne_bytes(), size_of::<usize>()).cast()
 }
 
-fn number_in(lent: &Lent) -> usize {
+pub fn number_in(lent: &Lent) -> usize {
     usize::from_ne_bytes(lent.content().try_into().expect("the bytes of a number"))
 }
 

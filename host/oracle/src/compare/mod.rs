@@ -11,6 +11,9 @@ mod past_32_bits;
 mod product;
 mod running;
 mod step_back;
+mod texts;
+mod word_inputs;
+mod words;
 mod written;
 
 use crate::report::{watch_for_crashes, Run};
@@ -27,5 +30,7 @@ pub fn run(run: &Run) {
     limit::run(run);
     step_back::run(run);
     degree::run(run);
+    words::run(run);
+    texts::run(run);
     past_32_bits::run(run);
 }

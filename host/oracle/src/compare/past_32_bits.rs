@@ -1,29 +1,40 @@
-//! Lengths past 2^32, which are right once cut to 32 bits. The bytes exist, as zeros that can only be read.
+//! Lengths past 2^32, which are right, or another thing, once cut to 32 bits. The bytes exist, as zeros that can only be
+//! read.
 
+use super::group::{lend_number, number_in};
 use super::inputs::out_after;
 use super::running::{from_memory, to_memory, Shown};
-use crate::ffi::{rvghash_degree, rvghash_execute, rvghash_step_back, PATHS, RUNNING_SIZE};
-use crate::lent::{huge, strays, Lent};
+use crate::ffi::{rvghash_assemble, rvghash_degree, rvghash_disassemble, rvghash_execute, rvghash_step_back};
+use crate::ffi::{PATHS, RUNNING_SIZE};
+use crate::lent::{huge, huge_with_front, strays, Lent};
 use crate::model::field::{Block, ZERO};
 use crate::model::hash::LIMIT;
 use crate::model::running::{State, FRESH};
-use crate::report::{Bytes, Group, Run, Seen};
+use crate::model::text::{assemble_call, disassemble_call};
+use crate::report::{Bytes, Group, Hex, Run, Seen, Text};
 use crate::rng::Rng;
+use std::mem::size_of;
+use std::slice;
 
 const PAST: usize = 1 << 32;
 
+/// So much of the memory whose first page can be written is looked at.
+const FRONT: usize = 64;
+
 pub fn run(run: &Run) {
     let mut group = Group::new(run, "lengths past 2^32");
-    let zeros = match huge(PAST + 2 * LIMIT) {
-        Some(zeros) => zeros,
-        None => return println!("skipped: lengths past 2^32: the system gives no such address space"),
+    let (zeros, front) = match (huge(PAST + 2 * LIMIT), huge_with_front(PAST + FRONT)) {
+        (Some(zeros), Some(front)) => (zeros, front),
+        _ => return println!("skipped: lengths past 2^32: the system gives no such address space"),
     };
     let mut rng = group.rng(0);
     execute_file(&mut group, &mut rng, zeros);
     blocks(&mut group, &mut rng, zeros);
     parts(&mut group, &mut rng, zeros);
     pieces(&mut group, &mut rng, zeros);
-    group.end(&[1, 9, 11]);
+    listings(&mut group, &mut rng, front);
+    texts(&mut group, &mut rng, front);
+    group.end(&[0, 1, 2, 9, 11]);
 }
 
 /// A file length that is right once cut to 32 bits.
@@ -105,5 +116,53 @@ fn pieces(group: &mut Group, rng: &mut Rng, zeros: &[u8]) {
                 });
             }
         }
+    }
+}
+
+fn put(front: *mut u8, bytes: &[u8]) {
+    assert!(bytes.len() <= FRONT);
+    // SAFETY: so many bytes can be written, and nothing else uses them.
+    unsafe { front.copy_from_nonoverlapping(bytes.as_ptr(), bytes.len()) };
+}
+
+fn content(front: *const u8) -> Vec<u8> {
+    // SAFETY: so many bytes can be read; the library keeps no pointer after a call.
+    unsafe { slice::from_raw_parts(front, FRONT) }.to_vec()
+}
+
+/// Buffers for a text that would be too short if their length were cut. A write behind the first page is a crash, which
+/// is told.
+fn listings(group: &mut Group, rng: &mut Rng, front: *mut u8) {
+    let mut length = Lent::write("length", size_of::<usize>());
+    for word in [0xB286_2277, 0x3221_E0D7, 0xB086_2277] {
+        for text_len in [PAST, PAST + 31, PAST + 32] {
+            let mut left = rng.bytes(FRONT);
+            put(front, &left);
+            let (answer, text) = disassemble_call(word, text_len);
+            left[..text.len()].copy_from_slice(text.as_bytes());
+            let model = Seen::expected(answer, (text.len(), Text(left)));
+            group.compare(&("rvghash_disassemble", Hex(word as u64), text_len), model, || {
+                let length_pointer = lend_number(&mut length, rng);
+                // SAFETY: so many bytes can be read, and those that the call may write can be written.
+                let answer = unsafe { rvghash_disassemble(word, front, text_len, length_pointer) };
+                Seen { answer, left: (number_in(&length), Text(content(front))), stray: strays(&[&length]) }
+            });
+        }
+    }
+}
+
+/// A listing that is followed by 2^32 bytes.
+fn texts(group: &mut Group, rng: &mut Rng, front: *mut u8) {
+    let mut word = Lent::write("word", 4);
+    for text in ["vghsh.vv v4, v8, v12", "vclmul.vx v1, v2, x3"] {
+        assert_eq!(assemble_call(text.as_bytes()).0, 0);
+        put(front, text.as_bytes());
+        let text_len = PAST + text.len();
+        group.compare(&("rvghash_assemble", text, text_len), Seen::expected(2, Bytes(vec![0; 4])), || {
+            let pointer = word.lend_aligned(rng, &[7, 7, 7, 7], 4).cast();
+            // SAFETY: so many bytes can be read.
+            let answer = unsafe { rvghash_assemble(front, text_len, pointer) };
+            Seen { answer, left: Bytes(word.content().to_vec()), stray: strays(&[&word]) }
+        });
     }
 }

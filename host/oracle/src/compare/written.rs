@@ -6,12 +6,16 @@ use super::hash::cut;
 use super::inputs::{block, out_after, out_before, part_length, perhaps_odd};
 use super::running::{any_state, any_step, to_memory, Step, Which};
 use super::step_back::any_case;
+use super::texts::any_text;
+use super::word_inputs::{any_buffer, any_fields, any_word};
 use crate::ffi::{Path, PATHS};
 use crate::model::execute::execute;
 use crate::model::field::{Block, ZERO};
 use crate::model::hash::ghash_call;
 use crate::model::running::{transition, Fed, State, FRESH};
 use crate::model::step_back::step_back_call;
+use crate::model::text::{assemble_call, disassemble_call};
+use crate::model::writer::{decode_call, encode_call};
 use crate::report::{Bytes, Run};
 use crate::rng::Rng;
 use std::fs::File;
@@ -24,6 +28,10 @@ enum Function {
     Ghash(Path),
     StepBack,
     Running(Which, Path),
+    Encode,
+    Decode,
+    Disassemble,
+    Assemble,
 }
 
 impl Function {
@@ -36,6 +44,10 @@ impl Function {
             Function::Running(Which::FeedA, path) => 4 + plain(path),
             Function::Running(Which::FeedC, path) => 6 + plain(path),
             Function::Running(Which::Finish, path) => 8 + plain(path),
+            Function::Encode => 10,
+            Function::Decode => 11,
+            Function::Disassemble => 12,
+            Function::Assemble => 13,
         }
     }
 }
@@ -146,17 +158,53 @@ impl Cases {
             _ => self.call(function, answer, &[], &[running, read(&s.key), read(&s.piece)]),
         }
     }
+
+    fn written_word(&mut self, rng: &mut Rng) -> Result<()> {
+        let f = any_fields(rng);
+        let (answer, word) = encode_call(&f);
+        let word = [rng.u32(), word].map(u32::to_le_bytes);
+        let scalars = f.numbers().map(u64::from);
+        self.call(Function::Encode, answer, &scalars, &[lent(4, &word[0], &word[1])])
+    }
+
+    fn decoded_word(&mut self, rng: &mut Rng) -> Result<()> {
+        let word = any_word(rng);
+        let (answer, f) = decode_call(word);
+        let numbers = f.numbers().map(|after| [rng.u32(), after].map(u32::to_le_bytes));
+        let buffers: Vec<_> = numbers.iter().map(|[before, after]| lent(4, before, after)).collect();
+        self.call(Function::Decode, answer, &[word as u64], &buffers)
+    }
+
+    fn listed_word(&mut self, rng: &mut Rng) -> Result<()> {
+        let (word, before) = (any_word(rng), any_buffer(rng, 300).0);
+        let (answer, text) = disassemble_call(word, before.len());
+        let after = [text.as_bytes(), &before[text.len()..]].concat();
+        let length = [rng.u64(), text.len() as u64].map(u64::to_le_bytes);
+        let buffers = [lent(1, &before, &after), lent(8, &length[0], &length[1])];
+        self.call(Function::Disassemble, answer, &[word as u64], &buffers)
+    }
+
+    fn read_text(&mut self, rng: &mut Rng) -> Result<()> {
+        let text = Bytes(any_text(rng));
+        let (answer, word) = assemble_call(&text.0);
+        let word = [rng.u32(), word].map(u32::to_le_bytes);
+        self.call(Function::Assemble, answer, &[], &[read(&text), lent(4, &word[0], &word[1])])
+    }
 }
 
 /// Writes the cases of this seed.
 pub fn write(run: &Run, path: &str) -> Result<()> {
     let mut cases = Cases { out: BufWriter::new(File::create(path)?) };
     cases.out.write_all(b"rvghash cases 1\n")?;
-    let groups: [(&str, u64, fn(&mut Cases, &mut Rng) -> Result<()>); 4] = [
+    let groups: [(&str, u64, fn(&mut Cases, &mut Rng) -> Result<()>); 8] = [
         ("executions", 24_000, Cases::execution),
         ("step backs", 1_200, Cases::step_back),
         ("messages, whole and in pieces", 600, Cases::message),
         ("running hashes, any fields", 10_000, Cases::any_running),
+        ("words written", 4_000, Cases::written_word),
+        ("words decoded", 4_000, Cases::decoded_word),
+        ("words listed", 6_000, Cases::listed_word),
+        ("texts read", 10_000, Cases::read_text),
     ];
     for (name, count, one) in groups {
         for index in 0..count * run.factor {

@@ -1,4 +1,4 @@
-//! The independent model: document 01 put into code by other methods than the library's.
+//! The independent model: document 01, and document 02's Ask 1, put into code by other methods than the library's.
 
 pub mod execute;
 pub mod field;
@@ -9,4 +9,6 @@ pub mod poly;
 pub mod refusal;
 pub mod running;
 pub mod step_back;
+pub mod text;
 pub mod word;
+pub mod writer;

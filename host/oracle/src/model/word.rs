@@ -1,5 +1,6 @@
 //! The eight words: a decoder by mask and match, and document 01's table of fields.
 
+/// In the order of their numbers in C.
 #[derive(Clone, Copy, PartialEq, Eq, Debug)]
 pub enum Kind {
     VclmulVv,
@@ -69,8 +70,11 @@ pub const TABLE: [Row; 8] = [
 impl Row {
     /// The word of this row, with the wished vm and vs1 where the row leaves them open.
     pub fn encode(&self, vm: u32, vs2: u32, vs1: u32, vd: u32) -> u32 {
-        let vm = self.vm.unwrap_or(vm);
-        let vs1 = self.vs1.unwrap_or(vs1);
+        self.with(self.vm.unwrap_or(vm), vs2, self.vs1.unwrap_or(vs1), vd)
+    }
+
+    /// The row's funct6, funct3 and opcode with these fields, whether the row allows them or not.
+    pub fn with(&self, vm: u32, vs2: u32, vs1: u32, vd: u32) -> u32 {
         self.funct6 << 26 | vm << 25 | vs2 << 20 | vs1 << 15 | self.funct3 << 12 | vd << 7 | self.opcode
     }
 }
