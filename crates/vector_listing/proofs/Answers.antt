@@ -1,19 +1,19 @@
 -- What the listing answers, by the buffer's length: `short`, `fits`; and a decoded word's registers (`registers`). Assumes nothing.
-use mathlib.Core.Bool.{Bool, true, false, cond}
+use mathlib.Core.Bool.{cond}
 use mathlib.Core.List.{List, _++_}
 use mathlib.Core.Path.{_≡_, refl, sym, ap, subst, _∙_}
 use Prim.Native.Nat.{ℕ, _+_, _≤_, _<_}
 use native.Mathlib.Nat.{zero-add}
 use native.Mathlib.Omega.{arith}
-use lib.Dec.{eqb, ltb}
+use lib.Dec.{eqb}
 use lib.ListN.{length, drop}
-use lib.Seq.{sets, sets-eq}
+use lib.Seq.{sets-eq}
 use borrow.Author.Tests.{lt-ltb, le-ltb}
 use Rattle.vector_kind.specs.declared.Kind.{Kind}
 use Rattle.vector_word.specs.declared.Fields.{Fields}
 use Rattle.vector_word.specs.declared.Word.{Word}
 use Rattle.vector_word.specs.declared.Word.the-variants.{Known, Unknown}
-use Rattle.vector_word.specs.Word.{kinds, decode, fieldsOf}
+use Rattle.vector_word.specs.Word.{kinds, decode}
 use Rattle.vector_word.proofs.Writer.{among-row}
 use Rattle.vector_listing.specs.declared.Listed.{Listed}
 use Rattle.vector_listing.specs.Listing.{Registers, RegistersOf, Puts, listed, listedInto}

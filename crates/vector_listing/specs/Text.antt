@@ -22,6 +22,7 @@ abbrev pub ascii : String → List ℕ
 ascii []ˢ = []
 ascii (c ∷ˢ s) = code c ∷ ascii s
 
+-- the mnemonics of sources 000 and 002, and vgmul.vv of the ratified specification
 abbrev pub mnemonic : Kind → List ℕ
 mnemonic VclmulVv = ascii "vclmul.vv"
 mnemonic VclmulVx = ascii "vclmul.vx"
@@ -32,19 +33,21 @@ mnemonic VghshVs = ascii "vghsh.vs"
 mnemonic VgmulVv = ascii "vgmul.vv"
 mnemonic VgmulVs = ascii "vgmul.vs"
 
--- a number below 100 in decimal, without leading zeros
+-- the byte of a decimal digit: 48 is 0
 abbrev pub digit : ℕ → ℕ
 digit d = 48 + d
 
+-- a number below 100 in decimal, without leading zeros
 abbrev pub decimal : ℕ → List ℕ
 decimal n = cond (ltb n 10) (digit n ∷ []) (digit (n / 10) ∷ digit (n % 10) ∷ [])
 
--- what the vs1 field is in the text: a vector register, the scalar register rs1 of a .vx word, or nothing, in vgmul
+-- the third operand where vs1 is no register group: rs1 in a .vx word, and none in vgmul
 abbrev pub thirdIn : Form → Third
 thirdIn Vv = Nothing
 thirdIn Vx = Rs1
 thirdIn Vs = Nothing
 
+-- what the vs1 field is in the texts of a kind
 abbrev pub thirdOf : Kind → Third
 thirdOf k = cond (traits k .«vs1_group») Vs1 (thirdIn (traits k .form))
 
@@ -53,10 +56,11 @@ third Vs1 n = ascii ", v" ++ decimal n
 third Rs1 n = ascii ", x" ++ decimal n
 third Nothing n = []
 
+-- a word with vm 0 is masked by register 0
 abbrev pub mask : ℕ → List ℕ
 mask vm = cond (eqb vm 0) (ascii ", v0.t") []
 
--- vd, vs2, then vs1 or rs1
+-- mnemonic, vd, vs2, then vs1 or rs1, and the mask
 unfoldable pub text : Kind → Fields → List ℕ
 text k f =
     mnemonic k

@@ -2,22 +2,18 @@
 -- in place of each other. Assumes nothing.
 use mathlib.Core.Bool.{Bool, true, false, cond}
 use mathlib.Core.List.{List, [], _∷_}
-use mathlib.Core.Path.{_≡_, refl, sym, ap, subst, _∙_}
-use Prim.Native.Nat.{ℕ, _^_, _<_}
+use mathlib.Core.Path.{_≡_, refl, sym, ap, _∙_}
+use Prim.Native.Nat.{ℕ}
 use native.Mathlib.Omega.{arith}
 use lib.Dec.{eqb}
 use borrow.Author.Tests.{eqb-true}
 use Rattle.vector_kind.specs.declared.Kind.{Kind}
 use Rattle.vector_kind.specs.declared.Kind.the-variants.{VclmulVv, VclmulVx, VclmulhVv, VclmulhVx, VghshVv, VghshVs, VgmulVv, VgmulVs}
 use Rattle.vector_kind.specs.Kinds.{kindNumber}
-use Rattle.vector_word.specs.declared.Encoded.{Encoded}
-use Rattle.vector_word.specs.declared.Fields.{Fields}
 use Rattle.vector_word.specs.declared.Word.{Word}
 use Rattle.vector_word.specs.declared.Word.the-variants.{Known, Unknown}
 use Rattle.vector_word.specs.Word.{kinds, decode}
-use Rattle.vector_word.specs.Writer.{encoded}
 use Rattle.vector_word.proofs.Writer as Writer
-use Rattle.vector_numbers.specs.declared.Decoded.{Decoded}
 use Rattle.vector_numbers.specs.declared.Numbered.{Numbered}
 use Rattle.vector_numbers.specs.declared.Numbered.the-variants.{Is, Nothing}
 use Rattle.vector_numbers.specs.Numbers.{numberedAmong, kindNumbered, encodedBy, decodedBy, encodedNumbered, decodedNumbered, WrittenDecodes, DecodedIsWritten}

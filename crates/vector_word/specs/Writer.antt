@@ -3,7 +3,7 @@
 use Prim.Native.Nat.{ℕ, _+_, _*_, _^_, _<_}
 use mathlib.Core.Bool.{Bool, cond, _&&_}
 use mathlib.Core.Path.{_≡_}
-use lib.Dec.{eqb, ltb}
+use lib.Dec.{ltb}
 use Rattle.vector_kind.specs.declared.Kind.{Kind}
 use Rattle.vector_word.specs.declared.Encoded.{Encoded}
 use Rattle.vector_word.specs.declared.Fields.{Fields}

@@ -1,6 +1,5 @@
 // The eight words and their fields: document 01, "The eight words".
 ghost use mathlib.Core.Path.{_≡_};
-ghost use Prim.Native.Nat.{_<_};
 ghost use Rattle.vector_word.specs.Word.{rowWith, row, allows, isRow, fieldsOf, asKind, decode};
 ghost use Rattle.vector_word.specs.Writer.{admits, wordOf, Narrow, encoded};
 use vector_kind::Kind;

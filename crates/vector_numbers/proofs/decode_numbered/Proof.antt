@@ -1,5 +1,5 @@
 -- `decode_numbered` goes by what `decode` gives. Assumes nothing.
-use mathlib.Core.Path.{_≡_, sym, ap, _∙_}
+use mathlib.Core.Path.{sym, ap, _∙_}
 use Rattle.vector_numbers.specs.Numbers.{decodedBy}
 use borrow.Author.Needs.{needs}
 use Rattle.vector_numbers.proofs.decode_numbered.Statement.{statement}

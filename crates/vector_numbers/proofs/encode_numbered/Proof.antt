@@ -1,5 +1,5 @@
 -- `encode_numbered` goes by the kind that has the number. Assumes nothing.
-use mathlib.Core.Path.{_≡_, sym, ap, _∙_}
+use mathlib.Core.Path.{sym, ap, _∙_}
 use Rattle.vector_numbers.specs.declared.Numbered.{Numbered}
 use Rattle.vector_numbers.specs.Numbers.{encodedBy}
 use borrow.Author.Needs.{needs}

@@ -4,7 +4,7 @@ use Prim.Native.Nat.{_+_, _≤_}
 use native.Mathlib.Omega.{arith}
 use borrow.Author.Needs.{needs}
 use Rattle.vector_reader.specs.declared.Scanned.{Scanned}
-use Rattle.vector_reader.specs.Scan.{scanned, operandsAt, hasThird, fieldsAfter, fieldsIn}
+use Rattle.vector_reader.specs.Scan.{scanned, operandsAt, fieldsAfter, fieldsIn}
 use Rattle.vector_reader.proofs.Scan.{operands-at-most, scanned-end}
 use Rattle.vector_reader.proofs.fields_in.Statement.{statement}
 use Rattle.vector_reader.proofs.fields_in.Tie as tie

@@ -2,14 +2,13 @@
 use mathlib.Core.Bool.{true≢false}
 use mathlib.Core.List.{List, _++_}
 use mathlib.Core.Path.{_≡_, refl, sym, ap, subst, _∙_}
-use Prim.Native.Nat.{ℕ, _≤_}
+use Prim.Native.Nat.{ℕ}
 use native.Mathlib.Omega.{arith}
 use lib.ListN.{length, take, drop, replicate, length-append}
 use lib.Seq.{take-at}
 use borrow.Author.Needs.{needs}
 use Rattle.vector_kind.specs.declared.Kind.{Kind}
 use Rattle.vector_word.specs.declared.Encoded.{Encoded}
-use Rattle.vector_word.specs.declared.Fields.{Fields}
 use Rattle.vector_word.specs.Writer.{encoded}
 use Rattle.vector_listing.specs.Text.{text}
 use Rattle.vector_reader.specs.Reading.{Reads}
