@@ -1,5 +1,5 @@
--- What is taken is what is listed: `listed-is-found`, `found-is-listed`; from these the reader's answers (`not-a-word`, `its-text`, `other-text`) and the theorems
--- for readers (`read-from-its-text`, `one-word-a-text`, `one-answer`). Assumes nothing.
+-- What is taken is what is listed: `listed-is-found`, `found-is-listed`. From these come the reader's answers (`not-a-word`, `its-text`,
+-- `other-text`) and the theorems for readers (`read-from-its-text`, `one-word-a-text`, `one-answer`). Assumes nothing.
 use mathlib.Core.Bool.{Bool, true, false, cond}
 use mathlib.Core.List.{List, _++_}
 use mathlib.Core.Path.{_≡_, refl, sym, ap, subst, _∙_}

@@ -1,6 +1,6 @@
 -- Writer and decoder undo each other (`written-decodes`, `decoded-is-written`); and what it tells of a row that it admits fields.
 -- Assumes nothing.
-use mathlib.Core.Bool.{Bool, true, false, cond, true≢false, _&&_}
+use mathlib.Core.Bool.{Bool, true, false, cond, _&&_, and-eq-true-iff}
 use mathlib.Core.List.{List, [], _∷_}
 use mathlib.Core.Path.{_≡_, refl, sym, ap, _∙_}
 use Prim.Native.Nat.{ℕ, _+_, _*_, _/_, _^_, _<_}
@@ -20,10 +20,6 @@ use Rattle.vector_word.proofs.Tests.{and-next}
 
 -- ---- tests that hold
 
-and-both : (a b : Bool) → (a && b) ≡ true → (a ≡ true) × (b ≡ true)
-and-both true b h = (refl, h)
-and-both false b h = absurd (true≢false (sym h))
-
 pub record Admitted (r : Row) (f : Fields) : Type 0 where
   pub vm : f .vm < 2
   pub vs2 : f .vs2 < 32
@@ -34,11 +30,11 @@ pub record Admitted (r : Row) (f : Fields) : Type 0 where
 
 pub admitted : (r : Row) (f : Fields) → admits r f ≡ true → Admitted r f
 admitted r f h =
-    let h1 = and-both (ltb (f .vm) 2) _ h in
-    let h2 = and-both (ltb (f .vs2) 32) _ (h1 .1) in
-    let h3 = and-both (ltb (f .vs1) 32) _ (h2 .1) in
-    let h4 = and-both (ltb (f .vd) 32) _ (h3 .1) in
-    let h5 = and-both (allows (r .vm) (f .vm)) _ (h4 .1) in
+    let h1 = and-eq-true-iff (ltb (f .vm) 2) _ .0 h in
+    let h2 = and-eq-true-iff (ltb (f .vs2) 32) _ .0 (h1 .1) in
+    let h3 = and-eq-true-iff (ltb (f .vs1) 32) _ .0 (h2 .1) in
+    let h4 = and-eq-true-iff (ltb (f .vd) 32) _ .0 (h3 .1) in
+    let h5 = and-eq-true-iff (allows (r .vm) (f .vm)) _ .0 (h4 .1) in
     record {
       vm = ltb-true (f .vm) 2 (h1 .0);
       vs2 = ltb-true (f .vs2) 32 (h2 .0);
@@ -174,10 +170,10 @@ made-of-parts w small =
 
 has-row : (k : Kind) (w : ℕ) → w < 2 ^ 32 → isRow (row k) w ≡ true → encoded k (fieldsOf w) ≡ record { number = 0; word = w }
 has-row k w small h =
-    let h1 = and-both (eqb (funct6Of w) (row k .funct6)) _ h in
-    let h2 = and-both (allows (row k .vm) (vmOf w)) _ (h1 .1) in
-    let h3 = and-both (allows (row k .vs1) (vs1Of w)) _ (h2 .1) in
-    let h4 = and-both (eqb (funct3Of w) (row k .funct3)) _ (h3 .1) in
+    let h1 = and-eq-true-iff (eqb (funct6Of w) (row k .funct6)) _ .0 h in
+    let h2 = and-eq-true-iff (allows (row k .vm) (vmOf w)) _ .0 (h1 .1) in
+    let h3 = and-eq-true-iff (allows (row k .vs1) (vs1Of w)) _ .0 (h2 .1) in
+    let h4 = and-eq-true-iff (eqb (funct3Of w) (row k .funct3)) _ .0 (h3 .1) in
     let funct6 = eqb-true (funct6Of w) (row k .funct6) (h1 .0) in
     let funct3 = eqb-true (funct3Of w) (row k .funct3) (h4 .0) in
     let opcode = eqb-true (opcodeOf w) (row k .opcode) (h4 .1) in
