@@ -55,9 +55,9 @@ uninstall: ## removes what install wrote
 	rm -f "$(DESTDIR)$(PREFIX)/lib/librvghash.a" "$(DESTDIR)$(PREFIX)/include/rvghash.h" \
 		"$(DESTDIR)$(PREFIX)/lib/pkgconfig/rvghash.pc" "$(DESTDIR)$(PREFIX)/bin/rvghash"
 
-bench: $(lib) ## measures the library beside its peers, and writes docs/BENCHMARKS.md
+bench: $(EARLIER) $(lib) ## measures the library beside its peers, with EARLIER=ARCHIVE beside that build too; writes docs/BENCHMARKS.md
 	@host/setup check bench
-	host/bench/run $(lib)
+	host/bench/run $(lib) $(EARLIER)
 
 derive: ## derives the known answers' data again, and compares it with the recorded checksums
 	@host/setup check derive

@@ -1,6 +1,6 @@
 /*
- * The benchmark: checks that all peers give the same results, times everything in interleaved rounds, and prints the
- * tables as Markdown.
+ * The benchmark: checks that all peers, and an earlier build where one is linked, give the same results, times
+ * everything in interleaved rounds, and prints the tables as Markdown.
  *
  *     bench [-r ROUNDS] [-b BATCH_MS] [-o SWEEP]
  *
@@ -63,15 +63,23 @@ static void check_peer(const struct peer *peer)
     }
 }
 
+static void check_word(int word, int number)
+{
+    const struct word_case *c = &plan.word_cases[word][number];
+    if (!word_agrees(c))
+        fail("differs from document 01's rules in plain C", word_name(word));
+    if (earlier_has(word, number) && !earlier_agrees(c))
+        fail("the earlier build's differs from document 01's rules in plain C", word_name(word));
+}
+
 static void check_all(void)
 {
     for (int p = 0; p < PEERS; p++)
         if (!peers[p].missing)
             check_peer(&peers[p]);
     for (int w = 0; w < WORDS; w++)
-        for (int s = 0; s < SETTINGS; s++)
-            if (!word_agrees(&plan.word_cases[w][s]))
-                fail("differs from document 01's rules in plain C", word_name(w));
+        for (int i = 0; i < word_count(w); i++)
+            check_word(w, i);
     if (!products_agree(&plan.triples))
         fail("differ from document 01's rules in plain C", "the products or the step back");
     fprintf(stderr, "bench: all results agree\n");
@@ -96,12 +104,12 @@ static void make_inputs(void)
         if (!peers[p].missing && peers[p].aes)
             inputs_keys(&plan.inputs, peers[p].aes);
     for (int w = 0; w < WORDS; w++)
-        for (int s = 0; s < SETTINGS; s++)
-            word_make(&plan.word_cases[w][s], w, all_settings[s], &seed);
+        for (int i = 0; i < word_count(w); i++)
+            word_make(&plan.word_cases[w][i], w, i, &seed);
     triples_make(&plan.triples, &seed);
 }
 
-static struct item *list[PEERS * (LENGTHS + 1) + WORDS * SETTINGS + 6];
+static struct item *list[PEERS * (LENGTHS + 1) + 2 * WORDS * CASES + 6];
 static int listed;
 
 static void add(struct item *item, double (*batch)(const void *what, long calls), const void *what)
@@ -121,14 +129,23 @@ static void add_hashes(const struct peer *peer, struct hash_case *cases, struct 
         add(aes, aes_batch, &cases[0]);
 }
 
+/* The builds stand side by side, so that both have the same share of what else the machine does. */
+static void add_word(int word, int number)
+{
+    const struct word_case *c = &plan.word_cases[word][number];
+    add(&plan.word[word][number], word_batch, c);
+    if (earlier_has(word, number))
+        add(&plan.earlier[word][number], earlier_batch, c);
+}
+
 static void add_all(void)
 {
     for (int p = 0; p < PEERS; p++)
         if (!peers[p].missing)
             add_hashes(&peers[p], plan.hash_cases[p], plan.hash[p], &plan.aes[p]);
     for (int w = 0; w < WORDS; w++)
-        for (int s = 0; s < SETTINGS; s++)
-            add(&plan.word[w][s], word_batch, &plan.word_cases[w][s]);
+        for (int i = 0; i < word_count(w); i++)
+            add_word(w, i);
     add(&plan.group_products, group_products_batch, &plan.word_cases[VGHSH_VV][WIDEST]);
     add(&plan.fast_product, fast_product_batch, &plan.triples);
     add(&plan.plain_product, plain_product_batch, &plan.triples);

@@ -25,8 +25,8 @@ struct plan {
     struct inputs inputs;
     struct hash_case hash_cases[PEERS][LENGTHS];
     struct item hash[PEERS][LENGTHS], aes[PEERS];
-    struct word_case word_cases[WORDS][SETTINGS];
-    struct item word[WORDS][SETTINGS], group_products;
+    struct word_case word_cases[WORDS][CASES];
+    struct item word[WORDS][CASES], earlier[WORDS][CASES], group_products;
     struct triples triples;
     struct item fast_product, plain_product, c_product, step_back, c_clmul;
 };

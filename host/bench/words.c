@@ -5,6 +5,7 @@
 
 #include <string.h>
 
+#include "found.h" /* HAVE_EARLIER: the earlier build's SHA-256, if run was given one */
 #include "inputs.h"
 #include "measure.h"
 #include "plain.h"
@@ -23,24 +24,42 @@ static const struct {
     [VGMUL_VV] = {"vgmul.vv", 0x28, 17, 2, 0x77},      [VGMUL_VS] = {"vgmul.vs", 0x29, 17, 2, 0x77},
 };
 
-const struct settings all_settings[SETTINGS] = {{128, 1}, {128, 8}, {512, 1}, {512, 8}};
+const struct settings all_settings[CASES] = {
+    {128, 1, 64}, {128, 8, 64}, {512, 1, 64}, {512, 8, 64}, {512, 8, 32}, {512, 8, 16}, {512, 8, 8},
+};
+
+typedef uint32_t execute_function(uint32_t word, uint32_t vlen, uint32_t sew, uint32_t lmul, uint32_t vl,
+                                  uint32_t *vstart, uint64_t scalar, uint8_t *file, size_t file_len);
+
+#ifdef HAVE_EARLIER
+execute_function earlier_rvghash_execute; /* run renames it so */
+static execute_function *const earlier_execute = earlier_rvghash_execute;
+const char *const earlier_name = HAVE_EARLIER;
+#else
+static execute_function *const earlier_execute = NULL;
+const char *const earlier_name = NULL;
+#endif
 
 const char *word_name(int word) { return rows[word].name; }
 
 static int is_ghash(int word) { return word >= VGHSH_VV; }
 
+int word_count(int word) { return is_ghash(word) ? SETTINGS : CASES; }
+
+int earlier_has(int word, int number) { return earlier_name && !is_ghash(word) && number >= WIDEST; }
+
 static size_t file_length(const struct word_case *c) { return (size_t)32 * c->settings.vlen / 8; }
 
 uint32_t word_parts(const struct word_case *c) { return is_ghash(c->word) ? c->vl / 4 : c->vl; }
 
-void word_make(struct word_case *c, int word, struct settings settings, uint64_t *seed)
+void word_make(struct word_case *c, int word, int number, uint64_t *seed)
 {
     c->word = word;
-    c->settings = settings;
+    c->settings = all_settings[number];
     c->code = rows[word].funct6 << 26 | 1u << 25 | VS2 << 20 | rows[word].vs1 << 15 | rows[word].funct3 << 12 |
               VD << 7 | rows[word].opcode;
-    c->sew = is_ghash(word) ? 32 : 64;
-    c->vl = settings.lmul * settings.vlen / c->sew;
+    c->sew = is_ghash(word) ? 32 : c->settings.sew;
+    c->vl = c->settings.lmul * c->settings.vlen / c->sew;
     c->scalar = random_next(seed);
     random_fill(seed, c->file, sizeof c->file);
 }
@@ -50,11 +69,11 @@ static uint8_t *part(const struct word_case *c, uint8_t *file, uint32_t reg, uin
     return file + reg * c->settings.vlen / 8 + byte;
 }
 
-static uint64_t load_element(const uint8_t *bytes)
+static uint64_t load_element(const uint8_t *bytes, uint32_t length)
 {
     uint64_t v = 0;
-    for (int i = 7; i >= 0; i--)
-        v = v << 8 | bytes[i];
+    for (uint32_t i = length; i > 0; i--)
+        v = v << 8 | bytes[i - 1];
     return v;
 }
 
@@ -62,10 +81,13 @@ static void expect_element(const struct word_case *c, uint8_t *file, uint32_t i)
 {
     int scalar = c->word == VCLMUL_VX || c->word == VCLMULH_VX;
     int upper = c->word == VCLMULH_VV || c->word == VCLMULH_VX;
-    uint64_t low, high, b = scalar ? c->scalar : load_element(part(c, file, VS1, 8 * i));
-    plain_clmul(load_element(part(c, file, VS2, 8 * i)), b, &low, &high);
-    for (int k = 0; k < 8; k++)
-        part(c, file, VD, 8 * i)[k] = (uint8_t)((upper ? high : low) >> 8 * k);
+    uint32_t length = c->sew / 8, at = i * length;
+    uint64_t low, high, half;
+    uint64_t b = scalar ? c->scalar & UINT64_MAX >> (64 - c->sew) : load_element(part(c, file, VS1, at), length);
+    plain_clmul(load_element(part(c, file, VS2, at), length), b, &low, &high);
+    half = !upper ? low : c->sew == 64 ? high : low >> c->sew; /* under SEW 64 low holds the whole product */
+    for (uint32_t k = 0; k < length; k++)
+        part(c, file, VD, at)[k] = (uint8_t)(half >> 8 * k);
 }
 
 static void expect_group(const struct word_case *c, uint8_t *file, uint32_t i)
@@ -78,33 +100,38 @@ static void expect_group(const struct word_case *c, uint8_t *file, uint32_t i)
     plain_product(part(c, file, VS2, one_key ? 0 : 16 * i), u, part(c, file, VD, 16 * i));
 }
 
-static uint32_t execute(const struct word_case *c, uint8_t *file)
+static uint32_t run(execute_function *execute, const struct word_case *c, uint8_t *file)
 {
     uint32_t vstart = 0;
-    return rvghash_execute(c->code, c->settings.vlen, c->sew, c->settings.lmul, c->vl, &vstart, c->scalar, file,
-                           file_length(c));
+    return execute(c->code, c->settings.vlen, c->sew, c->settings.lmul, c->vl, &vstart, c->scalar, file,
+                   file_length(c));
 }
 
-int word_agrees(const struct word_case *c)
+static int agrees(execute_function *execute, const struct word_case *c)
 {
     uint8_t expected[sizeof c->file], file[sizeof c->file];
     memcpy(expected, c->file, sizeof expected);
     memcpy(file, c->file, sizeof file);
     for (uint32_t i = 0; i < word_parts(c); i++)
         (is_ghash(c->word) ? expect_group : expect_element)(c, expected, i);
-    return execute(c, file) == RVGHASH_DONE && memcmp(file, expected, sizeof file) == 0;
+    return run(execute, c, file) == RVGHASH_DONE && memcmp(file, expected, sizeof file) == 0;
 }
 
-double word_batch(const void *word_case, long calls)
+static double batch(execute_function *execute, const struct word_case *c, long calls)
 {
-    const struct word_case *c = word_case;
     uint8_t file[sizeof c->file];
     memcpy(file, c->file, sizeof file);
     double start = clock_ns();
     for (long i = 0; i < calls; i++)
-        execute(c, file);
+        run(execute, c, file);
     return clock_ns() - start;
 }
+
+int word_agrees(const struct word_case *c) { return agrees(rvghash_execute, c); }
+int earlier_agrees(const struct word_case *c) { return agrees(earlier_execute, c); }
+
+double word_batch(const void *word_case, long calls) { return batch(rvghash_execute, word_case, calls); }
+double earlier_batch(const void *word_case, long calls) { return batch(earlier_execute, word_case, calls); }
 
 double group_products_batch(const void *word_case, long calls)
 {
