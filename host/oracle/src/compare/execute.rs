@@ -1,7 +1,7 @@
 //! rvghash_execute: at the limits of each setting, on all words that differ outside vd and vs2, on all pairs of 8-bit
-//! elements, and on random input.
+//! elements and all pairs of single bits of 64-bit ones, and on random input.
 
-use super::execute_inputs::{any, content, scalar, vlmax, Case, MOST_FILE};
+use super::execute_inputs::{any, content, scalar, single_bits, vlmax, Case, MOST_FILE};
 use crate::ffi::rvghash_execute;
 use crate::lent::{strays, Lent};
 use crate::model::execute::{execute, LMULS, SEWS, VLENS};
@@ -14,6 +14,7 @@ pub fn run(run: &Run) {
     at_limits(run, &mut memory);
     all_words(run, &mut memory);
     all_bytes(run, &mut memory);
+    all_bits(run, &mut memory);
     random(run, &mut memory);
 }
 
@@ -132,6 +133,16 @@ fn all_bytes(run: &Run, memory: &mut Memory) {
             let case = Case { word, vlen: 512, sew: 8, lmul: 8, vl: 512, vstart: 0, scalar, file: Bytes(file) };
             compare(&mut group, memory, &mut rng, &case);
         }
+    }
+    group.end(&[0]);
+}
+
+/// The product of each single bit with each single bit at SEW 64, low and high, by .vv and by .vx.
+fn all_bits(run: &Run, memory: &mut Memory) {
+    let mut group = Group::new(run, "rvghash_execute, all pairs of single bits of 64-bit elements");
+    let mut rng = group.rng(0);
+    for case in single_bits(&mut rng) {
+        compare(&mut group, memory, &mut rng, &case);
     }
     group.end(&[0]);
 }

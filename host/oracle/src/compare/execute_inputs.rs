@@ -71,6 +71,25 @@ pub fn any(rng: &mut Rng) -> Case {
     }
 }
 
+/// The 64-bit product of a single bit with each single bit: for each carry-less word and each bit of the multiplier one
+/// word, whose element i of vs2 is bit i alone.
+pub fn single_bits(rng: &mut Rng) -> Vec<Case> {
+    let mut cases = Vec::new();
+    for row in TABLE.iter().filter(|row| !row.kind.is_ghash()) {
+        for bit in 0..64 {
+            let mut file = rng.bytes(2048);
+            for i in 0..64 {
+                file[512 + 8 * i..][..8].copy_from_slice(&(1u64 << i).to_le_bytes());
+                file[1024 + 8 * i..][..8].copy_from_slice(&(1u64 << bit).to_le_bytes());
+            }
+            let word = Hex(row.encode(1, 8, 16, 24) as u64);
+            let (scalar, file) = (Hex(1 << bit), Bytes(file));
+            cases.push(Case { word, vlen: 512, sew: 64, lmul: 8, vl: 64, vstart: 0, scalar, file });
+        }
+    }
+    cases
+}
+
 /// One of the allowed values, or another one.
 fn setting(rng: &mut Rng, allowed: &[u32], others: &[u32], bad: usize) -> u32 {
     match (rng.often(bad), rng.below(4)) {

@@ -1,7 +1,7 @@
 //! Cases in a file, for a library of another machine: what each call is lent, and what it must answer and leave.
 //! host/tests/riscv_cases.h has the reader's side of the format.
 
-use super::execute_inputs::any;
+use super::execute_inputs::{any, single_bits, Case};
 use super::hash::cut;
 use super::inputs::{block, out_after, out_before, part_length, perhaps_odd};
 use super::running::{any_state, any_step, to_memory, Step, Which};
@@ -92,8 +92,11 @@ impl Cases {
         self.out.write_all(&b.after[start..end])
     }
 
-    fn execution(&mut self, rng: &mut Rng) -> Result<()> {
-        let c = any(rng);
+    fn any_execution(&mut self, rng: &mut Rng) -> Result<()> {
+        self.execution(&any(rng))
+    }
+
+    fn execution(&mut self, c: &Case) -> Result<()> {
         let after = execute(&c.request());
         let scalars = [c.word.0, c.vlen as u64, c.sew as u64, c.lmul as u64, c.vl as u64, c.scalar.0];
         let vstart = [c.vstart, after.vstart].map(u32::to_le_bytes);
@@ -197,7 +200,7 @@ pub fn write(run: &Run, path: &str) -> Result<()> {
     let mut cases = Cases { out: BufWriter::new(File::create(path)?) };
     cases.out.write_all(b"rvghash cases 1\n")?;
     let groups: [(&str, u64, fn(&mut Cases, &mut Rng) -> Result<()>); 8] = [
-        ("executions", 24_000, Cases::execution),
+        ("executions", 24_000, Cases::any_execution),
         ("step backs", 1_200, Cases::step_back),
         ("messages, whole and in pieces", 600, Cases::message),
         ("running hashes, any fields", 10_000, Cases::any_running),
@@ -212,5 +215,9 @@ pub fn write(run: &Run, path: &str) -> Result<()> {
         }
         println!("written: {name}: {}", count * run.factor);
     }
+    let name = "executions, all pairs of single bits";
+    let bits = single_bits(&mut Rng::for_call(run.seed, name, 0));
+    bits.iter().try_for_each(|case| cases.execution(case))?;
+    println!("written: {name}: {}", bits.len());
     cases.out.flush()
 }
