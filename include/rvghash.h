@@ -23,8 +23,8 @@
 /* The version, as the file VERSION has it. */
 #define RVGHASH_VERSION_MAJOR 0
 #define RVGHASH_VERSION_MINOR 2
-#define RVGHASH_VERSION_PATCH 0
-#define RVGHASH_VERSION_STRING "0.2.0"
+#define RVGHASH_VERSION_PATCH 1
+#define RVGHASH_VERSION_STRING "0.2.1"
 
 #define RVGHASH_BLOCK_BYTES 16                             /* of a key, a block, a hash */
 #define RVGHASH_LIMIT_BYTES 1048576                        /* the most that A may have, and C */

@@ -34,6 +34,7 @@ use Rattle.vector_reader.specs.Scan.{kindIn, fieldsIn}
 use Rattle.vector_reader.proofs.Reading.{found, not-a-word, its-text, other-text}
 use Rattle.vector_refusal.specs.Refusal.{refusalOf, refusalOfKnown}
 use Rattle.vector_element.specs.Clmul.{clmul, clmul64}
+use Rattle.vector_element.specs.Pieces.{clmul8, sum, sumOfProducts, evenProducts}
 use Rattle.octets.specs.LittleEndian.{readLe, writeLe}
 use Rattle.vector_element.specs.Element.{maskBit, blockPlace}
 use Rattle.vector_clmul.specs.Carryless.{carrylessResult, carrylessStep, carryless}
@@ -42,7 +43,7 @@ use Rattle.vector_ghash.specs.declared.GhashMultiplier.{GhashMultiplier}
 use Rattle.vector_ghash.specs.declared.GhashMultiplier.the-variants.{YXorX, YAlone}
 use Rattle.vector_ghash.specs.GhashWords.{group, multiplierOf, vvStep, vsStep, ghashVv, ghashVs}
 use Rattle.vector_execute.specs.Execute.{doneKnown, done, executed, vstartAfter}
-use Rattle.theorems.specs.Examples.{Example, call, known, word, encodes, decodes, lists, lists-as, lists-into, reads, question, part, times, hash, backward, out, written, state, feeds, finishes, degree, degreeOfBytes, back, execution, running, file, table, Holds, AllHold, ExamplesHold}
+use Rattle.theorems.specs.Examples.{Example, call, known, word, encodes, decodes, lists, lists-as, lists-into, reads, question, part, times, hash, backward, out, written, state, feeds, finishes, degree, degreeOfBytes, back, pieces, sums, four, execution, running, file, table, Holds, AllHold, ExamplesHold}
 use Rattle.theorems.proofs.Marked.{same, numbersOf, goesBack, same-at, is-word, goes-back}
 
 -- ---- a call that computes fast: the executor's definition over the product, which is then the quick one
@@ -158,6 +159,9 @@ right (finishes phase k n number after) = same (finishNumbers phase k n) (number
 right (degree u number at) = same (degreeRefusal u ∷ degreeOf u ∷ []) (number ∷ at ∷ [])
 right (degreeOfBytes block number at) = same (degreeNumber block ∷ degreePlace block ∷ []) (number ∷ at ∷ [])
 right (back h x y1 number block) = goesBack (eqb h 0) (eqb y1 0) h x y1 number block
+right (pieces p q product) = eqb (clmul8 p q) product
+right (sums m n a b product) = eqb (sumOfProducts m n a b) product
+right (four a q products) = eqb (evenProducts a q) products
 right (execution w s scalar before changed vstart) =
     same (executedBy quickProduct w s scalar (file before)) (file (changed ++ before)) && eqb (vstartAfter (length (file before)) w s) vstart
 
@@ -241,6 +245,9 @@ shows (degreeOfBytes block number at) t =
     let e = same-at (degreeNumber block ∷ degreePlace block ∷ []) (number ∷ at ∷ []) t in
     (e 0, e 1)
 shows (back h x y1 number block) t = goes-back h x y1 number block (eqb h 0) (eqb y1 0) refl refl t
+shows (pieces p q product) t = eqb→eq (clmul8 p q) product t
+shows (sums m n a b product) t = eqb→eq (sumOfProducts m n a b) product t
+shows (four a q products) t = eqb→eq (evenProducts a q) products t
 shows (execution w s scalar before changed vstart) t =
     let a = same (executedBy quickProduct w s scalar (file before)) (file (changed ++ before)) in
     let b = eqb (vstartAfter (length (file before)) w s) vstart in (
@@ -261,5 +268,5 @@ all-show [] t = tt
 all-show (e ∷ es) t = (shows e (and-left (right e) (allRight es) t), all-show es (and-right (right e) (allRight es) t))
 
 pub examples : ExamplesHold
-unfolding table allRight right same finished numbersOf readBy text fieldsIn goesBack decode refusalOf refusalOfKnown groupRefusal numberOf file quickXOf quickSteps quickProduct beAt beBytes highest degreeOf coeffOf executedBy doneBy ghashBy steps clmul clmul64 readLe writeLe maskBit carrylessResult carrylessStep carryless
+unfolding table allRight right same finished numbersOf readBy text fieldsIn goesBack decode refusalOf refusalOfKnown groupRefusal numberOf file quickXOf quickSteps quickProduct beAt beBytes highest degreeOf coeffOf executedBy doneBy ghashBy steps clmul clmul64 clmul8 sum readLe writeLe maskBit carrylessResult carrylessStep carryless
 examples = record { rows = refl; all = all-show table tt }

@@ -1,6 +1,6 @@
 -- Examples of the written rules, as one table with one statement, `ExamplesHold`: each refusal number of documents 01 and 02 on both sides of
--- its limit, each clause of "malformed", words with their texts and with the bytes that they leave. A rule that is changed here or there no
--- longer fits its row.
+-- its limit, each clause of "malformed", words with their texts and with the bytes that they leave, carry-less products of pieces. A rule
+-- that is changed here or there no longer fits its row.
 -- Assumes nothing.
 use Prim.Native.Nat.{ℕ, _*_}
 use Prim.Native.String.{String}
@@ -25,6 +25,7 @@ use Rattle.vector_listing.specs.Listing.{listed, listedInto}
 use Rattle.vector_listing.specs.Text.{ascii, textOf}
 use Rattle.vector_reader.specs.Reading.{Reads}
 use Rattle.vector_refusal.specs.Refusal.{refusalOf, refusalOfKnown}
+use Rattle.vector_element.specs.Pieces.{clmul8, sumOfProducts, evenProducts}
 use Rattle.vector_execute.specs.Execute.{executed, vstartAfter}
 
 -- VLEN, SEW, LMUL, vl and vstart
@@ -86,6 +87,12 @@ pub data Example : Type 0 where
   degreeOfBytes : (block : List ℕ) → (number place : ℕ) → Example
   -- the step back from H, X and Y1: the number and the block that it answers
   back : (h x y1 number block : ℕ) → Example
+  -- two pieces and their carry-less product
+  pieces : (p q product : ℕ) → Example
+  -- numbers of pieces, two numbers, and the sum of the products of these pieces of theirs
+  sums : (m n a b product : ℕ) → Example
+  -- a number, a piece, and the products of the number's even pieces with it, in lanes
+  four : (a q products : ℕ) → Example
   -- a call on a file, the registers that it changes, and vstart afterwards
   execution : (w : ℕ) → (s : Settings) → (scalar : ℕ) → (before changed : List (ℕ × ℕ)) → (vstart : ℕ) → Example
 
@@ -120,6 +127,9 @@ Holds (finishes phase k n number after) =
 Holds (degree u number place) = (degreeRefusal u ≡ number) × (degreeOf u ≡ place)
 Holds (degreeOfBytes block number place) = (degreeNumber block ≡ number) × (degreePlace block ≡ place)
 Holds (back h x y1 number block) = StepsBack h x y1 number block
+Holds (pieces p q product) = clmul8 p q ≡ product
+Holds (sums m n a b product) = sumOfProducts m n a b ≡ product
+Holds (four a q products) = evenProducts a q ≡ products
 Holds (execution w s scalar before changed vstart) =
     (executed w s scalar (file before) ≡ file (changed ++ before)) × (vstartAfter (length (file before)) w s ≡ vstart)
 
@@ -589,6 +599,30 @@ table =
     ∷ execution 0xA288A277 (settings 128 32 2 4 2) 0
     ((4, 0x80000000000000000000000000000001) ∷ (8, 0x40000000000000000000000000000000) ∷ [])
     [] 2
+    -- pieces: each bit of either counts, and nothing is reduced (the first: FIPS 197, 4.2, before its reduction)
+    ∷ pieces 0x57 0x83 0x2B79
+    ∷ pieces 0xFF 0xFF 0x5555
+    ∷ pieces 0x80 0x80 0x4000
+    ∷ pieces 0x01 0x80 0x0080
+    ∷ pieces 0x80 0x01 0x0080
+    ∷ pieces 0x00 0xFF 0x0000
+    -- bit 8 of the second is no bit of a piece
+    ∷ pieces 0x01 0x100 0
+    -- a number past its pieces, and one more piece
+    ∷ sums 1 1 0x100 0x1 0x0
+    ∷ sums 2 1 0x100 0x1 0x100
+    ∷ sums 1 1 0x1 0x100 0x0
+    ∷ sums 1 2 0x1 0x100 0x100
+    -- eight pieces each: the top bits, all bits, and the two pairs of Intel's paper on its carry-less multiply instruction
+    ∷ sums 8 8 0x8000000000000000 0x8000000000000000 0x40000000000000000000000000000000
+    ∷ sums 8 8 0xFFFFFFFFFFFFFFFF 0xFFFFFFFFFFFFFFFF 0x55555555555555555555555555555555
+    ∷ sums 8 8 0x63746F725D53475D 0x5B477565726F6E5D 0x1D4D84C85C3440C0929633D5D36F0451
+    ∷ sums 8 8 0x7B5B546573745665 0x4869285368617929 0x1D1E1F2C592E7C45D66EE03E410FD4ED
+    -- four at once: the even pieces alone, each in its lane
+    ∷ four 0xFFFFFFFFFFFFFFFF 0xFF 0x5555555555555555
+    ∷ four 0xFF00FF00FF00FF00 0xFF 0x0000000000000000
+    ∷ four 0x0080004000200010 0x80 0x4000200010000800
+    ∷ four 0x0080000000000000 0xFF 0x7F80000000000000
     ∷ []
 
 -- every example of a list holds
@@ -598,5 +632,5 @@ AllHold (e ∷ es) = Holds e × AllHold es
 
 -- the statement: the rows are so many, and all of them hold
 pub record ExamplesHold : Type 0 where
-  pub rows : length table ≡ 391
+  pub rows : length table ≡ 410
   pub all : AllHold table

@@ -1,18 +1,19 @@
 -- The carry-less product is a product of polynomials over two elements, each law over the number of steps. Main results: `sum-left`,
--- `sum-right` (it goes through xor in either factor), `swap`, `product-comm` (the factors may be exchanged), `product-lt`, `halves` (two
--- w-bit numbers have a product of 2w bits, which is its two halves together), `whole` (w steps are enough for a w-bit factor).
+-- `sum-right` (it goes through xor in either factor), `moved-left`, `moved-right` (and through a move up), `swap`, `product-comm` (the
+-- factors may be exchanged), `product-lt`, `halves` (two w-bit numbers have a product of 2w bits, which is its two halves together),
+-- `enough`, `whole` (w steps are enough for a w-bit factor), `more-steps` (the steps in two parts).
 -- Assumes nothing.
 use mathlib.Core.Path.{_≡_, refl, sym, ap, ap₂, subst, _∙_}
 use Prim.Native.Nat.{ℕ, zero, suc, _+_, _-_, _*_, _/_, _%_, _^_, _<_, _≤_}
-use native.Mathlib.Nat.{lt-of-lt-of-le, div-eq-of-lt, zero-mod, mod-one, zero-mul, one-mul, two-mul, add-suc, le-add-right, lt-of-not-le, add-zero, mul-zero, le-of-suc-le, le-refl, mul-assoc, mul-comm, mod-lt, mod-eq-of-lt}
+use native.Mathlib.Nat.{lt-of-lt-of-le, lt-of-le-of-lt, div-eq-of-lt, zero-mod, mod-one, zero-mul, one-mul, two-mul, add-suc, add-comm, le-add-right, le-mul-of-pos-right, lt-of-not-le, add-zero, mul-zero, le-of-suc-le, le-refl, mul-assoc, mul-comm, mul-right-comm, mod-lt, mod-eq-of-lt}
 use native.Mathlib.Decide.{decLe}
 use native.Mathlib.Numerals.{one-add}
 use native.Mathlib.Omega.{arith}
 use lib.Arith.{lt-one}
 use lib.Bits.{bitXor, xor-lt, xor-shr, xor-zero-r, xor-shifted, xor-comm}
-use lib.Pow.{pow-pos, pow-mono, shl-lt, recompose, mod-pow-add, mod-mod-pow, field}
+use lib.Pow.{pow-pos, pow-add, pow-mono, shl-lt, shr-shr, recompose, mod-pow-add, mod-mod-pow, field}
 use Rattle.gf128.proofs.Places.{digit-ind, digit-xor, xor-digit, digit-lt}
-use Rattle.gf128.proofs.Xor.{xor-odd, xor-swap4, xor-shl}
+use Rattle.gf128.proofs.Xor.{xor-assoc, xor-odd, xor-swap4, xor-shl}
 use Rattle.vector_element.specs.Clmul.{clmul, clmul64, lowHalf, highHalf}
 use Rattle.vector_element.proofs.Carryless.{bitOf, bit-lt}
 
@@ -47,7 +48,7 @@ pub halves : (a b w : ℕ) → a < 2 ^ w → b < 2 ^ w → highHalf w (clmul64 a
 halves a b w ha hb = recompose w w (sum-lt a b w ha hb)
 
 -- steps past the width change nothing
-enough : (a b w d : ℕ) → b < 2 ^ w → clmul (w + d) a b ≡ clmul w a b
+pub enough : (a b w d : ℕ) → b < 2 ^ w → clmul (w + d) a b ≡ clmul w a b
 unfolding clmul
 enough a b w zero hb = ap (λ (n : ℕ). clmul n a b) (add-zero w)
 enough a b w (suc d) hb =
@@ -60,6 +61,35 @@ unfolding clmul64
 whole a b w hb h =
     let e : 64 ≡ w + (64 - w) = omega arith in
     ap (λ (n : ℕ). clmul n a b) e ∙ enough a b w (64 - w) hb
+
+-- the steps alone bound the product
+pub steps-most : (n a b w : ℕ) → a < 2 ^ w → clmul n a b < 2 ^ (w + n)
+unfolding clmul
+steps-most zero a b w ha = pow-pos (w + 0)
+steps-most (suc n) a b w ha =
+    xor-lt (w + suc n) (clmul n a b) (bitOf b n * (a * 2 ^ n))
+    (lt-of-lt-of-le (steps-most n a b w ha) more)
+    (digit-lt (bitOf b n) (a * 2 ^ n) (2 ^ (w + suc n)) (bit-lt b n) (lt-of-lt-of-le (shl-lt w n ha) more))
+  where
+    more : 2 ^ (w + n) ≤ 2 ^ (w + suc n)
+    more = pow-mono {i = w + n} {j = w + suc n} (omega arith)
+
+-- the first n steps, then w more
+pub more-steps : (n w a b : ℕ) → clmul (n + w) a b ≡ bitXor (clmul n a b) (clmul w a (b / 2 ^ n) * 2 ^ n)
+unfolding clmul
+more-steps n zero a b =
+    ap (λ (j : ℕ). clmul j a b) (add-zero n) ∙ sym (ap (bitXor (clmul n a b)) (zero-mul (2 ^ n)) ∙ xor-zero-r (clmul n a b))
+more-steps n (suc w) a b =
+    ap (λ (j : ℕ). clmul j a b) (add-suc n w)
+    ∙ ap₂ bitXor (more-steps n w a b) term
+    ∙ xor-assoc (clmul n a b) (clmul w a (b / 2 ^ n) * 2 ^ n) (bitOf (b / 2 ^ n) w * (a * 2 ^ w) * 2 ^ n)
+    ∙ ap (bitXor (clmul n a b)) (sym (xor-shl (clmul w a (b / 2 ^ n)) (bitOf (b / 2 ^ n) w * (a * 2 ^ w)) n))
+  where
+    term : bitOf b (n + w) * (a * 2 ^ (n + w)) ≡ bitOf (b / 2 ^ n) w * (a * 2 ^ w) * 2 ^ n
+    term =
+        ap₂ _*_ (ap (λ (x : ℕ). x % 2) (sym (shr-shr b n w)))
+        (ap (λ (x : ℕ). a * x) (ap (λ (k : ℕ). 2 ^ k) (add-comm n w) ∙ pow-add 2 w n) ∙ sym (mul-assoc a (2 ^ w) (2 ^ n)))
+        ∙ sym (mul-assoc (bitOf (b / 2 ^ n) w) (a * 2 ^ w) (2 ^ n))
 
 -- ---- sums in either factor
 
@@ -83,6 +113,14 @@ pub zero-left : (n b : ℕ) → clmul n 0 b ≡ 0
 unfolding clmul
 zero-left zero b = refl
 zero-left (suc n) b = ap₂ bitXor (zero-left n b) (ap (λ (v : ℕ). bitOf b n * v) (zero-mul (2 ^ n)) ∙ mul-zero (bitOf b n))
+
+pub moved-left : (n k a b : ℕ) → clmul n (a * 2 ^ k) b ≡ clmul n a b * 2 ^ k
+unfolding clmul
+moved-left zero k a b = sym (zero-mul (2 ^ k))
+moved-left (suc n) k a b =
+    ap₂ bitXor (moved-left n k a b)
+    (ap (λ (v : ℕ). bitOf b n * v) (mul-right-comm a (2 ^ k) (2 ^ n)) ∙ sym (mul-assoc (bitOf b n) (a * 2 ^ n) (2 ^ k)))
+    ∙ sym (xor-shl (clmul n a b) (bitOf b n * (a * 2 ^ n)) k)
 
 -- ---- the factors may be exchanged
 
@@ -112,7 +150,7 @@ low-bit b k j h =
     let e : k ≡ k - j - 1 + 1 + j = omega arith in
     ap (λ (x : ℕ). b % 2 ^ x / 2 ^ j % 2) e ∙ ap (λ (x : ℕ). x % 2) (field b (k - j - 1 + 1) j) ∙ mod-mod-pow (b / 2 ^ j) (k - j - 1) 1
 
-low-right : (n k a b : ℕ) → n ≤ k → clmul n a (b % 2 ^ k) ≡ clmul n a b
+pub low-right : (n k a b : ℕ) → n ≤ k → clmul n a (b % 2 ^ k) ≡ clmul n a b
 unfolding clmul
 low-right zero k a b h = refl
 low-right (suc n) k a b h = ap₂ bitXor (low-right n k a b (le-of-suc-le h)) (ap (λ (d : ℕ). d * (a * 2 ^ n)) (low-bit b k n h))
@@ -129,3 +167,8 @@ swap (suc n) m a b ha hb =
 pub product-comm : (a b : ℕ) → a < 2 ^ 64 → b < 2 ^ 64 → clmul64 a b ≡ clmul64 b a
 unfolding clmul64
 product-comm a b ha hb = swap 64 64 a b ha hb
+
+pub moved-right : (n k a b : ℕ) → a < 2 ^ n → b * 2 ^ k < 2 ^ n → clmul n a (b * 2 ^ k) ≡ clmul n a b * 2 ^ k
+moved-right n k a b ha hb =
+    swap n n a (b * 2 ^ k) ha hb ∙ moved-left n k b a
+    ∙ ap (λ (x : ℕ). x * 2 ^ k) (swap n n b a (lt-of-le-of-lt (le-mul-of-pos-right b (pow-pos k)) hb) ha)

@@ -1,5 +1,6 @@
 pub mod Bilinear
 pub mod Bounds
 pub mod Carryless
+pub mod FromPieces
 pub mod Sew
 pub mod Steps

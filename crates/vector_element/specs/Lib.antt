@@ -1,3 +1,4 @@
 pub mod Clmul
 pub mod Element
+pub mod Pieces
 pub mod Steps

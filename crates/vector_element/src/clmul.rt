@@ -4,6 +4,9 @@ ghost use mathlib.Core.Path.{_≡_};
 ghost use Prim.Native.Nat.{_+_, _*_, _%_, _^_, _<_, _≤_};
 ghost use Rattle.vector_registers.specs.Settings.{sewAllowed};
 ghost use Rattle.vector_element.specs.Clmul.{clmul64, halfOf};
+use crate::pieces::WINDOW;
+use crate::pieces::even_products;
+use crate::pieces::fill_window;
 
 // The half of a carry-less product that a word keeps.
 pub enum Half {
@@ -14,18 +17,25 @@ pub enum Half {
 // A number of 128 bits: its high half, then its low half.
 pub struct Wide(pub u64, pub u64);
 
-// The whole product of two numbers: for each bit of b that is 1, a moved up to that bit's place is xored in.
+// The whole product of two numbers, from the products of their 8-bit pieces. A piece of b is multiplied with the even pieces of a
+// and with the odd ones, which stand one piece higher. No later piece of b reaches the sum's lowest 8 bits: they go to `low`.
 pub fn clmul64(a: u64, b: u64) -> Wide
     ensures { λ r. ⌜ r .0 * 2 ^ 64 + r .1 ≡ clmul64 a b ⌝ }
 {
+    let mut even = [0u64; WINDOW];
+    let mut odd = [0u64; WINDOW];
+    fill_window(&mut even, a);
+    fill_window(&mut odd, a >> 8);
     let mut high: u64 = 0;
     let mut low: u64 = 0;
-    let mut i: u64 = 0;
-    while i < 64 {
-        let bit = (b >> i) % 2;
-        high = high ^ (bit * ((a >> 1) >> (63 - i)));
-        low = low ^ (bit * (a << i));
-        i += 1;
+    let mut rest = b;
+    let mut j: u64 = 0;
+    while j < 8 {
+        let sum = high ^ even_products(&even, rest);
+        low = (low >> 8) ^ (sum << 56);
+        high = (sum >> 8) ^ even_products(&odd, rest);
+        rest = rest >> 8;
+        j += 1;
     }
     Wide(high, low)
 }

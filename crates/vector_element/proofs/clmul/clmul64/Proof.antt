@@ -1,82 +1,97 @@
--- `clmul64` meets its definition. The loop's invariant: the two halves are the product of a and the low i bits of b.
+-- `clmul64` meets its definition. The loop's invariant: the two numbers hold the products of a's pieces with the first j pieces of b,
+-- moved up by the bits that are still to come.
 -- Assumes nothing.
-use Prim.Native.Nat.{ℕ, _+_, _-_, _*_, _/_, _%_, _^_, _≤_, _<_}
-use mathlib.Core.Path.{_≡_, refl, ap, _∙_}
-use native.Mathlib.Nat.{mod-lt, lt-of-le-of-lt, le-trans}
+use Prim.Native.Nat.{ℕ, _+_, _-_, _*_, _/_, _^_, _≤_, _<_}
+use mathlib.Core.Path.{_≡_, refl, sym, ap, _∙_}
+use native.Mathlib.Nat.{mod-lt, lt-of-le-of-lt, mul-one, div-one}
 use native.Mathlib.Omega.{arith}
 use lib.Bits.{xor-lt}
-use lib.Pow.{pow-pos, shr-le}
-use Rattle.vector_element.specs.Clmul.{clmul, clmul64}
-use Rattle.gf128.proofs.Places.{digit-lt}
-use Rattle.vector_element.proofs.Carryless.{bitOf, bit-lt, turn}
+use lib.Pow.{pow-pos, shr-le, shr-shr}
+use borrow.Author.Needs.{needs}
+use Rattle.vector_element.specs.Clmul.{clmul64}
+use Rattle.vector_element.specs.Pieces.{sum, sumOfProducts}
+use Rattle.vector_element.proofs.FromPieces.{whole-from-pieces, turn}
 use Rattle.vector_element.proofs.clmul.clmul64.Statement.{statement}
 use Rattle.vector_element.proofs.clmul.clmul64.Tie as tie
 
 abbrev Inv-loop : tie.InvT-loop
-Inv-loop a b high₀ low₀ i₀ high low i =
-    (i ≤ 64) × (high < 2 ^ 64) × (low < 2 ^ 64) × (high * 2 ^ 64 + low ≡ clmul i a b)
+Inv-loop a b even odd high₀ low₀ rest₀ j₀ high low rest j =
+    (j ≤ 8) × (low < 2 ^ 64) × (rest ≡ b / 2 ^ (8 * j)) × (high * 2 ^ 64 + low ≡ sumOfProducts 8 j a b * 2 ^ (64 - 8 * j))
 
 abbrev μ-loop : tie.MeasureT-loop
-μ-loop a b high₀ low₀ i₀ high low i = 64 - i
+μ-loop a b even odd high₀ low₀ rest₀ j₀ high low rest j = 8 - j
+
+slice-aggregate-fill-window : tie.Need-slice-aggregate-fill-window Inv-loop μ-loop
+slice-aggregate-fill-window c = search needs
+
+fill-window-requires : tie.Need-fill-window-requires Inv-loop μ-loop
+fill-window-requires c κs = search needs
+
+slice-aggregate-fill-window-2 : tie.Need-slice-aggregate-fill-window-2 Inv-loop μ-loop
+slice-aggregate-fill-window-2 c = search needs
+
+fill-window-requires-2 : tie.Need-fill-window-requires-2 Inv-loop μ-loop
+fill-window-requires-2 c κs = search needs
 
 loop-holds : tie.Need-loop-holds Inv-loop μ-loop
-unfolding clmul
-loop-holds c = (omega arith, omega arith, omega arith, refl)
+unfolding sum
+loop-holds c = (omega arith, omega arith, sym (div-one (c .before .before .before .before .before .before .args .b)), refl)
 
-shr-bit : tie.Need-shr-bit Inv-loop μ-loop
-shr-bit c = omega arith
+even-products-requires : tie.Need-even-products-requires Inv-loop μ-loop
+even-products-requires c κs = search needs
 
-sub-high : tie.Need-sub-high Inv-loop μ-loop
-sub-high c = omega arith
+even-products-requires-2 : tie.Need-even-products-requires-2 Inv-loop μ-loop
+even-products-requires-2 c κs = search needs
 
-shr-high : tie.Need-shr-high Inv-loop μ-loop
-shr-high c = omega arith
-
-mul-high : tie.Need-mul-high Inv-loop μ-loop
-mul-high c =
-    let i = c .before .loop .i in
-    let a = c .before .before .args .a in
-    record {
-      fits = digit-lt (bitOf (c .before .before .args .b) i) (a / 2 / 2 ^ (63 - i)) (2 ^ 64) (bit-lt (c .before .before .args .b) i)
-          (lt-of-le-of-lt (le-trans (shr-le (a / 2) (63 - i)) (shr-le a 1)) (c .before .before .fits .a .fits));
-    }
-
-shl-low : tie.Need-shl-low Inv-loop μ-loop
-shl-low c = omega arith
-
-mul-low : tie.Need-mul-low Inv-loop μ-loop
-mul-low c =
-    let i = c .before .loop .i in
-    let a = c .before .before .args .a in
-    record {
-      fits = digit-lt (bitOf (c .before .before .args .b) i) (a * 2 ^ i % 2 ^ 64) (2 ^ 64) (bit-lt (c .before .before .args .b) i)
-          (mod-lt (a * 2 ^ i) (pow-pos 64));
-    }
-
-add-i : tie.Need-add-i Inv-loop μ-loop
-add-i c = omega arith
+add-j : tie.Need-add-j Inv-loop μ-loop
+add-j c = search needs
 
 loop-less : tie.Need-loop-less Inv-loop μ-loop
-loop-less c = omega arith
+loop-less c = search needs
 
 loop-again : tie.Need-loop-again Inv-loop μ-loop
 loop-again c =
-    let i = c .before .loop .i in
-    let a = c .before .before .args .a in
-    let b = c .before .before .args .b in (
+    let at = c .before .before .before .before .before in
+    let filled = at .before .before .before .before .before in
+    let start = filled .before .before in
+    let a = start .args .a in
+    let b = start .args .b in
+    let j = at .loop .j in
+    let inv = at .loop .inv in
+    let next : 8 * j + 8 ≡ 8 * (j + 1) = omega arith in (
       omega arith,
-      xor-lt 64 _ _ (c .before .loop .inv .1) (mul-high c .fits),
-      xor-lt 64 _ _ (c .before .loop .inv .2) (mul-low c .fits),
-      turn a b i (c .before .loop .high) (c .before .loop .low) (omega arith) (c .before .loop .inv .2) (c .before .loop .inv .3),
+      xor-lt 64 _ _ (lt-of-le-of-lt (shr-le _ 8) (inv .1)) (mod-lt _ (pow-pos 64)),
+      ap (λ (x : ℕ). x / 2 ^ 8) (inv .2) ∙ shr-shr b (8 * j) 8 ∙ ap (λ (k : ℕ). b / 2 ^ k) next,
+      turn a b j (at .loop .rest) (at .loop .high) (at .loop .low) _ _ (omega arith) (inv .1) (inv .2)
+          (c .before .before .even-products .ensures a (filled .fill-window .ensures))
+          (c .even-products2 .ensures (a / 2 ^ 8) (at .before .before .fill-window2 .ensures))
+          (inv .3),
     )
 
 returns : tie.Need-returns Inv-loop μ-loop
 unfolding clmul64
 returns c =
-    let e : c .before .loop .i ≡ 64 = omega arith in
-    c .before .loop .inv .3 ∙ ap (λ (n : ℕ). clmul n (c .before .before .args .a) (c .before .before .args .b)) e
+    let start = c .before .before .before .before .before .before .before .before in
+    let a = start .args .a in
+    let b = start .args .b in
+    let done : c .before .loop .j ≡ 8 = omega arith in
+    c .before .loop .inv .3 ∙ ap (λ (j : ℕ). sumOfProducts 8 j a b * 2 ^ (64 - 8 * j)) done
+    ∙ mul-one (sumOfProducts 8 8 a b) ∙ sym (whole-from-pieces 8 8 a b (start .fits .a .fits))
 
 pub clmul64-spec : {M : Type 1} → statement M
 clmul64-spec =
     tie.close
-    (tie.spec Inv-loop μ-loop loop-holds shr-bit sub-high shr-high mul-high shl-low mul-low add-i loop-less loop-again returns)
+    (tie.spec
+    Inv-loop
+    μ-loop
+    slice-aggregate-fill-window
+    fill-window-requires
+    slice-aggregate-fill-window-2
+    fill-window-requires-2
+    loop-holds
+    even-products-requires
+    even-products-requires-2
+    add-j
+    loop-less
+    loop-again
+    returns)

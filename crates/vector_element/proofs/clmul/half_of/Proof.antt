@@ -7,7 +7,7 @@ use lib.Pow.{high, shr-mod}
 use borrow.Author.Needs.{needs}
 use Rattle.vector_element.specs.declared.clmul.Half.{Half}
 use Rattle.vector_element.specs.Clmul.{halfOf}
-use Rattle.vector_element.proofs.Carryless.{low-in-low, high-in-low}
+use Rattle.vector_element.proofs.Carryless.{low-in-low, field-in-low}
 use Rattle.vector_element.proofs.Sew.{sew-facts}
 use Rattle.vector_element.proofs.clmul.half_of.Statement.{statement}
 use Rattle.vector_element.proofs.clmul.half_of.Tie as tie
@@ -56,7 +56,7 @@ returns-3 c =
     let h = sew-facts (s .args .sew) (s .pre) in
     let twice = h .twice (c .before .before .if1 .left) in
     c .low-bits2 .ensures
-    ∙ sym (high-in-low (s .args .p .0) (s .args .p .1) (s .args .sew) (64 - s .args .sew - s .args .sew) (omega arith))
+    ∙ sym (field-in-low (s .args .p .0) (s .args .p .1) 64 (s .args .sew) (s .args .sew) (64 - s .args .sew - s .args .sew) (omega arith))
     ∙ ap (λ (w : Half). halfOf w (s .args .sew) (s .args .p .0 * 2 ^ 64 + s .args .p .1)) (sym (c .before .before .before .enum-told2 .given .1))
 
 pub half-of-spec : {M : Type 1} → statement M
