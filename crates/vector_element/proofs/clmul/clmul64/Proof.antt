@@ -10,7 +10,8 @@ use lib.Pow.{pow-pos, shr-le, shr-shr}
 use borrow.Author.Needs.{needs}
 use Rattle.vector_element.specs.Clmul.{clmul64}
 use Rattle.vector_element.specs.Pieces.{sum, sumOfProducts}
-use Rattle.vector_element.proofs.FromPieces.{whole-from-pieces, turn}
+use Rattle.vector_element.proofs.FromPieces.{whole-from-pieces}
+use Rattle.vector_element.proofs.Gathered.{turn}
 use Rattle.vector_element.proofs.clmul.clmul64.Statement.{statement}
 use Rattle.vector_element.proofs.clmul.clmul64.Tie as tie
 

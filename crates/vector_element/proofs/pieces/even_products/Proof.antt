@@ -6,7 +6,7 @@ use native.Mathlib.Nat.{mod-lt}
 use lib.Bits.{bitXor}
 use lib.Pow.{pow-pos}
 use borrow.Author.Needs.{needs}
-use Rattle.vector_element.proofs.FromPieces.{looked-up}
+use Rattle.vector_element.proofs.Lanes.{looked-up}
 use Rattle.vector_element.proofs.pieces.even_products.Statement.{statement}
 use Rattle.vector_element.proofs.pieces.even_products.Tie as tie
 
