@@ -7,6 +7,7 @@ pub mod Differ
 pub mod Division
 pub mod Field
 pub mod Frobenius
+pub mod Halves
 pub mod Hash
 pub mod Inverse
 pub mod Next

@@ -8,6 +8,7 @@ use native.Mathlib.Omega.{arith}
 use lib.Bits.{bitXor, xor-shifted, xor-zero-r, shifted-even}
 use lib.Pow.{pow-pos, pow-add, pow-lt, split, shl-lt, shl-shr, mod-pow-add}
 use Rattle.gf128.specs.Field.{coeffOf, timesXOf, shiftedOf, sumOf, productOf}
+use Rattle.gf128.proofs.Halves.{shl-shl}
 use Rattle.gf128.proofs.Places.{half-place, half-place-0, coeffOf-lt, coeffOf-last, digit-map, timesXOf-zero, timesXOf-xor, shiftedOf-xor, shiftedOf-timesX, productOf-xor-left, productOf-shifted}
 
 -- ---- times x where nothing leaves
@@ -129,10 +130,10 @@ module _ (m R : ℕ) where
   productOf-split j d p q h e l =
       ap (λ (x : ℕ). productOf m R x h)
       (add-mul (p * 2 ^ j) q (2 ^ d)
-      ∙ ap (λ (x : ℕ). x + q * 2 ^ d) (mul-assoc p (2 ^ j) (2 ^ d) ∙ ap (λ (x : ℕ). p * x) (sym (pow-add 2 j d))))
+      ∙ ap (λ (x : ℕ). x + q * 2 ^ d) (sym (shl-shl p j d)))
       ∙ productOf-halves j (j + d) p (q * 2 ^ d) h e (shl-lt j d l)
       ∙ ap (λ (x : ℕ). bitXor (productOf m R (p * 2 ^ (j + d)) h) (productOf m R x (shiftedOf R h j)))
-      (mul-assoc q (2 ^ d) (2 ^ j) ∙ ap (λ (x : ℕ). q * x) (mul-comm (2 ^ d) (2 ^ j) ∙ sym (pow-add 2 j d)))
+      (sym (shl-shl q d j) ∙ ap (λ (x : ℕ). q * 2 ^ x) (add-comm d j))
 
   -- from the last group to the first: with the k low digits of u done, the next j digits; j + k + d is the number of places
   pub productOf-step : (j k d u h : ℕ) → j + (k + d) ≡ suc m
@@ -141,16 +142,16 @@ module _ (m R : ℕ) where
   productOf-step j k d u h e =
       ap (λ (x : ℕ). productOf m R x h)
       (ap (λ (x : ℕ). x * 2 ^ d) (mod-pow-add u j k) ∙ add-mul (u / 2 ^ k % 2 ^ j * 2 ^ k) (u % 2 ^ k) (2 ^ d)
-      ∙ ap (λ (x : ℕ). x + u % 2 ^ k * 2 ^ d) (mul-assoc (u / 2 ^ k % 2 ^ j) (2 ^ k) (2 ^ d) ∙ ap (λ (x : ℕ). u / 2 ^ k % 2 ^ j * x) (sym (pow-add 2 k d))))
+      ∙ ap (λ (x : ℕ). x + u % 2 ^ k * 2 ^ d) (sym (shl-shl (u / 2 ^ k % 2 ^ j) k d)))
       ∙ productOf-group j (k + d) (u / 2 ^ k % 2 ^ j) (u % 2 ^ k * 2 ^ d) h e (shl-lt k d (mod-lt u (pow-pos k)))
       ∙ ap (λ (x : ℕ). bitXor (productOf m R (u / 2 ^ k % 2 ^ j * 2 ^ (k + d)) h) (shiftedOf R (productOf m R x h) j))
-      (mul-assoc (u % 2 ^ k) (2 ^ d) (2 ^ j) ∙ ap (λ (x : ℕ). u % 2 ^ k * x) (sym (pow-add 2 d j)))
+      (sym (shl-shl (u % 2 ^ k) d j))
 
   -- the digits a * 2 ^ j + r, d places before the last
   pub productOf-digits : (j d a r h : ℕ) → r < 2 ^ j
       → productOf m R ((a * 2 ^ j + r) * 2 ^ d) h ≡ bitXor (productOf m R (a * 2 ^ j * 2 ^ d) h) (productOf m R (r * 2 ^ d) h)
   productOf-digits j d a r h l =
-      let e : a * 2 ^ j * 2 ^ d ≡ a * 2 ^ (j + d) = mul-assoc a (2 ^ j) (2 ^ d) ∙ ap (λ (x : ℕ). a * x) (sym (pow-add 2 j d)) in
+      let e = sym (shl-shl a j d) in
       ap (λ (x : ℕ). productOf m R x h) (add-mul (a * 2 ^ j) r (2 ^ d) ∙ ap (λ (x : ℕ). x + r * 2 ^ d) e)
       ∙ front (j + d) a (r * 2 ^ d) h (shl-lt j d l)
       ∙ ap (λ (x : ℕ). bitXor (productOf m R x h) (productOf m R (r * 2 ^ d) h)) (sym e)

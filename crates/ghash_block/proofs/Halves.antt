@@ -1,57 +1,24 @@
--- A number as two halves of k digits each: how xor, times x and a coefficient go by the halves.
--- Main results: `halves-lt`, `halves-xor`, `halves-moved`, `halves-shifted`, `halves-timesX`, `high-coefficient`, `low-coefficient`.
+-- A block as two halves: how times x and a coefficient go by the halves.
+-- Main results: `halves-shifted`, `halves-timesX`, `high-coefficient`, `low-coefficient`.
 -- Assumes nothing.
-use mathlib.Core.Path.{_≡_, sym, ap, ap₂, _∙_, subst}
+use mathlib.Core.Path.{_≡_, sym, ap, ap₂, _∙_}
 use Prim.Native.Nat.{ℕ, suc, _+_, _-_, _*_, _/_, _%_, _^_, _≤_, _<_}
-use native.Mathlib.Nat.{add-zero, add-assoc, add-comm, add-mul, mul-assoc, mul-comm, mod-lt, mod-eq-of-lt, div-eq-of-lt, mul-add-div-right, mul-add-mod-self-right, add-sub-assoc}
+use native.Mathlib.Nat.{mul-assoc, mod-lt, mod-eq-of-lt, div-eq-of-lt, add-sub-assoc}
+use native.Mathlib.Numerals.{add-one}
 use native.Mathlib.Omega.{arith}
-use lib.Arith.{digits-lt}
-use lib.Pow.{pow-pos, pow-add, split, shr-lt, shr-shr, high}
-use lib.Bits.{bitXor, xor-block, xor-zero-r, block-odd}
+use lib.Pow.{pow-pos, shr-shr, high}
+use lib.Bits.{bitXor}
 use Rattle.gf128.specs.Field.{coeffOf, timesXOf, shiftedOf}
+use Rattle.gf128.proofs.Halves.{high-xor, halves-moved, halves-low, moved-lt, field-in-low}
 use Rattle.gf128.proofs.Nibbles.{shiftedOf-overflow}
 
-pub halves-lt : (k a r : ℕ) → a < 2 ^ k → r < 2 ^ k → a * 2 ^ k + r < 2 ^ (k + k)
-halves-lt k a r h l = rw (pow-add 2 k k) (digits-lt h l)
-
-pub halves-xor : (k a b r s : ℕ) → r < 2 ^ k → s < 2 ^ k
-    → bitXor a b * 2 ^ k + bitXor r s ≡ bitXor (a * 2 ^ k + r) (b * 2 ^ k + s)
-halves-xor k a b r s hr hs = sym (xor-block k a b r s hr hs)
-
--- halves of i + j digits: j digits leave the high half, and are the highest of the low half
-module _ (i j a r : ℕ) where
-  whole : a * 2 ^ (i + j) ≡ a * 2 ^ i * 2 ^ j
-  whole = ap (λ (x : ℕ). a * x) (pow-add 2 i j) ∙ sym (mul-assoc a (2 ^ i) (2 ^ j))
-
-  pub halves-moved : (a * 2 ^ (i + j) + r) / 2 ^ j ≡ a / 2 ^ j * 2 ^ (i + j) + (r / 2 ^ j + a % 2 ^ j * 2 ^ i)
-  halves-moved =
-      ap (λ (x : ℕ). (x + r) / 2 ^ j) whole
-      ∙ mul-add-div-right (pow-pos j) (a * 2 ^ i) r
-      ∙ ap (λ (x : ℕ). x + r / 2 ^ j)
-      (ap (λ (x : ℕ). x * 2 ^ i) (sym (split a j)) ∙ add-mul (a / 2 ^ j * 2 ^ j) (a % 2 ^ j) (2 ^ i)
-      ∙ ap (λ (x : ℕ). x + a % 2 ^ j * 2 ^ i)
-      (mul-assoc (a / 2 ^ j) (2 ^ j) (2 ^ i) ∙ ap (λ (x : ℕ). a / 2 ^ j * x) (mul-comm (2 ^ j) (2 ^ i) ∙ sym (pow-add 2 i j))))
-      ∙ add-assoc (a / 2 ^ j * 2 ^ (i + j)) (a % 2 ^ j * 2 ^ i) (r / 2 ^ j)
-      ∙ ap (λ (x : ℕ). a / 2 ^ j * 2 ^ (i + j) + x) (add-comm (a % 2 ^ j * 2 ^ i) (r / 2 ^ j))
-
-  left : (a * 2 ^ (i + j) + r) % 2 ^ j ≡ r % 2 ^ j
-  left = ap (λ (x : ℕ). (x + r) % 2 ^ j) whole ∙ mul-add-mod-self-right (a * 2 ^ i) (2 ^ j) r
-
-  pub moved-lt : r < 2 ^ (i + j) → r / 2 ^ j + a % 2 ^ j * 2 ^ i < 2 ^ (i + j)
-  moved-lt h =
-      subst (λ (x : ℕ). x < 2 ^ (i + j)) (add-comm (a % 2 ^ j * 2 ^ i) (r / 2 ^ j))
-      (subst (λ (x : ℕ). a % 2 ^ j * 2 ^ i + r / 2 ^ j < x) (mul-comm (2 ^ j) (2 ^ i) ∙ sym (pow-add 2 i j))
-      (digits-lt (mod-lt a (pow-pos j)) (shr-lt i j h)))
-
-  -- times x, j times, where e is the high half of the reduction of what leaves, and its low half is zero
-  pub halves-shifted : (R e : ℕ) → r < 2 ^ (i + j) → e * 2 ^ (i + j) ≡ shiftedOf R (r % 2 ^ j) j
-      → bitXor (a / 2 ^ j) e * 2 ^ (i + j) + (r / 2 ^ j + a % 2 ^ j * 2 ^ i) ≡ shiftedOf R (a * 2 ^ (i + j) + r) j
-  halves-shifted R e h rule =
-      let low = r / 2 ^ j + a % 2 ^ j * 2 ^ i in
-      ap (λ (x : ℕ). bitXor (a / 2 ^ j) e * 2 ^ (i + j) + x) (sym (xor-zero-r low))
-      ∙ halves-xor (i + j) (a / 2 ^ j) e low 0 (moved-lt h) (pow-pos (i + j))
-      ∙ ap₂ bitXor (sym halves-moved) (add-zero (e * 2 ^ (i + j)) ∙ rule ∙ ap (λ (x : ℕ). shiftedOf R x j) (sym left))
-      ∙ sym (shiftedOf-overflow R (a * 2 ^ (i + j) + r) j)
+-- times x, j times, where e is the high half of the reduction of what leaves, and its low half is zero
+pub halves-shifted : (i j a r R e : ℕ) → r < 2 ^ (i + j) → e * 2 ^ (i + j) ≡ shiftedOf R (r % 2 ^ j) j
+    → bitXor (a / 2 ^ j) e * 2 ^ (i + j) + (r / 2 ^ j + a % 2 ^ j * 2 ^ i) ≡ shiftedOf R (a * 2 ^ (i + j) + r) j
+halves-shifted i j a r R e h rule =
+    high-xor (i + j) (a / 2 ^ j) e (r / 2 ^ j + a % 2 ^ j * 2 ^ i) (moved-lt i j a r h)
+    ∙ ap₂ bitXor (sym (halves-moved i j a r)) (rule ∙ ap (λ (x : ℕ). shiftedOf R x j) (sym (halves-low i j a r)))
+    ∙ sym (shiftedOf-overflow R (a * 2 ^ (i + j) + r) j)
 
 -- once: R is the high half of the reduction, and its low half is zero
 pub halves-timesX : (k R a r : ℕ) → r < 2 ^ (k + 1)
@@ -66,10 +33,7 @@ high-digit : (k j a r : ℕ) → r < 2 ^ k → (a * 2 ^ k + r) / 2 ^ (k + j) ≡
 high-digit k j a r h = sym (shr-shr (a * 2 ^ k + r) k j) ∙ ap (λ (x : ℕ). x / 2 ^ j) (high a k h)
 
 low-digit : (d j a r : ℕ) → (a * 2 ^ (suc d + j) + r) / 2 ^ j % 2 ≡ r / 2 ^ j % 2
-low-digit d j a r =
-    ap (λ (x : ℕ). (x + r) / 2 ^ j % 2) (ap (λ (x : ℕ). a * x) (pow-add 2 (suc d) j) ∙ sym (mul-assoc a (2 ^ suc d) (2 ^ j)))
-    ∙ ap (λ (x : ℕ). x % 2) (mul-add-div-right (pow-pos j) (a * 2 ^ suc d) r)
-    ∙ block-odd a d (r / 2 ^ j)
+low-digit d j a r = field-in-low a r (suc d + j) j 1 d (ap (λ (x : ℕ). x + j) (add-one d))
 
 -- p is the last place of the high half
 pub high-coefficient : (p k a r : ℕ) → k ≤ p → r < 2 ^ suc p

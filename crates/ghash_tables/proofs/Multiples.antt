@@ -6,10 +6,10 @@ use mathlib.Core.Bool.{Bool, _&&_}
 use mathlib.Core.List.{List}
 use mathlib.Core.Logic.{⊎-elim}
 use Prim.Native.Nat.{ℕ, zero, suc, _+_, _-_, _*_, _/_, _%_, _^_, _<_, _≤_}
-use native.Mathlib.Nat.{zero-div, add-zero, add-assoc, add-comm, mul-assoc, mul-comm, mod-lt, eq-zero-or-pos, not-suc-le-zero}
+use native.Mathlib.Nat.{zero-div, add-zero, add-assoc, add-comm, mul-assoc, mul-comm, eq-zero-or-pos, not-suc-le-zero}
 use native.Mathlib.Omega.{arith}
-use lib.Pow.{pow-pos, split, shr-shr, field, mod-mod-pow, mod-pow-add}
-use lib.Bits.{bitXor, xor-comm, xor-lt, xor-mod, xor-shifted}
+use lib.Pow.{split, shr-shr, field, mod-mod-pow}
+use lib.Bits.{bitXor, xor-lt, xor-mod}
 use lib.Dec.{T, eqb, eqb→eq, lit<}
 use lib.ListN.{length, getD}
 use lib.Seq.{sets, length-sets}
@@ -19,7 +19,7 @@ use Rattle.gf128.proofs.Places.{shiftedOf-add, shiftedOf-xor, productOf-zero-le
 use Rattle.gf128.proofs.Tests.{and-left, and-right, allBelow, allBelow-at}
 use Rattle.gf128.proofs.Xor.{xor-assoc, xor-shl}
 use Rattle.octets.proofs.Stores.{sets-at, sets-other}
-use Rattle.ghash_block.proofs.Halves.{halves-xor}
+use Rattle.gf128.proofs.Halves.{top-digit, halves-xor}
 use Rattle.ghash_block.specs.declared.block.Block.{Block}
 use Rattle.ghash_block.specs.Block.{valueOf}
 use Rattle.ghash_tables.specs.Table.{pairAt, nibble, fourOf, MultiplesPut, ReductionsAt, ReductionsIn, TablesTo}
@@ -73,8 +73,7 @@ module _ (R v k l w r e : ℕ) (er : r * 2 ^ w ≡ shiftedOf R (v % 2 ^ k) k) (z
       (ee ∙ ap (λ (x : ℕ). shiftedOf R x 4) (sym (shiftedOf-multiple R n k)) ∙ sym (shiftedOf-add R (n * 2 ^ k) k 4))
       ∙ sym (shiftedOf-xor R (v % 2 ^ k) (n * 2 ^ k) (k + 4))
       ∙ ap (λ (x : ℕ). shiftedOf R x (k + 4))
-      (xor-comm (v % 2 ^ k) (n * 2 ^ k) ∙ xor-shifted n k (v % 2 ^ k) (mod-lt v (pow-pos k))
-      ∙ sym (mod-pow-add v 4 k) ∙ ap (λ (x : ℕ). v % 2 ^ x) (add-comm 4 k))
+      (top-digit v 4 k ∙ ap (λ (x : ℕ). v % 2 ^ x) (add-comm 4 k))
 
 -- ---- the multiples
 

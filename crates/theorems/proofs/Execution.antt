@@ -7,7 +7,7 @@ use mathlib.Core.Bool.{Bool, true, false, cond, _&&_, _||_}
 use mathlib.Core.List.{List}
 use mathlib.Core.Path.{_≡_, refl, sym, ap, subst, _∙_}
 use Prim.Native.Nat.{ℕ, _-_, _/_, _<_, _≤_}
-use native.Mathlib.Nat.{pos-of-ne-zero}
+use native.Mathlib.Nat.{pos-of-ne-zero, le-of-suc-le-suc}
 use native.Mathlib.Omega.{arith}
 use borrow.Author.Tests.{eqb-false, eq-eqb}
 use lib.Dec.{eqb}
@@ -35,11 +35,12 @@ use Rattle.vector_ghash.specs.GhashWords.{group, vvStep, vsStep, ghashVv, ghash
 use Rattle.vector_execute.specs.Execute.{doneKnown, done, executed, vstartAfter}
 use Rattle.vector_execute.proofs.Admitted.{Admitted, admitted-as, performed}
 use Rattle.vector_element.proofs.Steps.{none-left}
+use Rattle.vector_word.proofs.Writer.{FieldsFit, decoded-fit}
 use Rattle.theorems.specs.Execution.{firstUnit, pastUnit, activeUnit, unitBytes, unitPlace, unitOf, resultOf, Within, Done, WordDone}
 use Rattle.theorems.proofs.Elements.{AlignedMultiplier, elements-done}
 use Rattle.theorems.proofs.Groups.{vv-done, vs-done}
 use Rattle.theorems.proofs.Places.{sew32, settings, vd-of, vs1-of, vs2-of}
-use Rattle.theorems.proofs.Registers.{Aligned, Numbers, numbers}
+use Rattle.theorems.proofs.Registers.{Aligned}
 
 -- refusal 8: with vm 0, vd is not the mask register
 unmasked : (vm vd : ℕ) (rest : Bool) → vm ≤ 1 → eqb vm 0 && (eqb vd 0 || rest) ≡ false → (vm ≡ 1 → ⊥) → 0 < vd
@@ -47,13 +48,13 @@ unmasked vm vd rest small h ne =
     let z : vm ≡ 0 = omega arith in
     pos-of-ne-zero (eqb-false vd 0 (or-false (eqb vd 0) rest (subst (λ (b : Bool). b && (eqb vd 0 || rest) ≡ false) (eq-eqb vm 0 z) h) .0))
 
-module _ (f : Fields) (s : Settings) (scalar : ℕ) (file : List ℕ) (bytes : AreBytes file) (n : Numbers f) where
+module _ (f : Fields) (s : Settings) (scalar : ℕ) (file : List ℕ) (bytes : AreBytes file) (n : FieldsFit f) where
   elements : (which : Half) (m : Multiplier) (k : Kind) → Admitted (length file) k f s → Aligned s (f .vs2) → AlignedMultiplier m f s
       → Done file (carryless which m f s file) (s .vstart) (s .vl) (s .sew / 8) (elementAt (s .vlen) (s .sew) (f .vd)) (active f file)
       (λ i g. element s g (f .vd) i) (carrylessResult which m f s file)
   elements which m k a vs2 vs1 =
-      elements-done which m f s file (settings a) (n .vd-small) (vd-of a) vs2 vs1
-      (unmasked (f .vm) (f .vd) _ (n .vm-small) (a .not8))
+      elements-done which m f s file (settings a) (le-of-suc-le-suc (n .vd)) (vd-of a) vs2 vs1
+      (unmasked (f .vm) (f .vd) _ (le-of-suc-le-suc (n .vm)) (a .not8))
 
   by-kind : (k : Kind) → Admitted (length file) k f s → WordDone k f s scalar file (doneKnown k f s scalar file)
   unfolding carrylessResult
@@ -62,13 +63,13 @@ module _ (f : Fields) (s : Settings) (scalar : ℕ) (file : List ℕ) (bytes : A
   by-kind VclmulhVv a = elements High Vs1 VclmulhVv a (vs2-of a refl) (vs1-of a refl)
   by-kind VclmulhVx a = elements High (Scalar (scalarOf f s scalar)) VclmulhVx a (vs2-of a refl) tt
   by-kind VghshVv a =
-      vv-done YXorX f s file bytes (settings a) (n .vd-small) (vd-of a) (vs1-of a refl) (sew32 (s .sew) (a .not4))
+      vv-done YXorX f s file bytes (settings a) (le-of-suc-le-suc (n .vd)) (vd-of a) (vs1-of a refl) (sew32 (s .sew) (a .not4))
       (vs2-of a refl)
   by-kind VghshVs a =
-      vs-done YXorX f s file bytes (settings a) (n .vd-small) (vd-of a) (vs1-of a refl) (sew32 (s .sew) (a .not4))
+      vs-done YXorX f s file bytes (settings a) (le-of-suc-le-suc (n .vd)) (vd-of a) (vs1-of a refl) (sew32 (s .sew) (a .not4))
   by-kind VgmulVv a =
-      vv-done YAlone f s file bytes (settings a) (n .vd-small) (vd-of a) tt (sew32 (s .sew) (a .not4)) (vs2-of a refl)
-  by-kind VgmulVs a = vs-done YAlone f s file bytes (settings a) (n .vd-small) (vd-of a) tt (sew32 (s .sew) (a .not4))
+      vv-done YAlone f s file bytes (settings a) (le-of-suc-le-suc (n .vd)) (vd-of a) tt (sew32 (s .sew) (a .not4)) (vs2-of a refl)
+  by-kind VgmulVs a = vs-done YAlone f s file bytes (settings a) (le-of-suc-le-suc (n .vd)) (vd-of a) tt (sew32 (s .sew) (a .not4))
 
 module _
     (word : ℕ) (s : Settings) (scalar : ℕ) (file : List ℕ) (bytes : AreBytes file) (number : refusalOf (length file) word s ≡ 0)
@@ -77,7 +78,7 @@ module _
     pub word-done : WordDone k f s scalar file (executed word s scalar file)
     word-done =
         subst (WordDone k f s scalar file) (ap (λ (w : Word). done w s scalar file) (sym known) ∙ performed word s scalar file number .1)
-        (by-kind f s scalar file bytes (numbers word known) k (admitted-as (length file) word s known number))
+        (by-kind f s scalar file bytes (decoded-fit word known) k (admitted-as (length file) word s known number))
 
     -- each active element or group in range holds the result computed from the file at entry
     pub every-unit : (i : ℕ) → firstUnit k s ≤ i → i < pastUnit k s → activeUnit k f file i ≡ true

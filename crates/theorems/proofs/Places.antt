@@ -4,7 +4,7 @@
 use mathlib.Core.Bool.{Bool, true, false, cond, not, _&&_}
 use mathlib.Core.Path.{_≡_, subst}
 use Prim.Native.Nat.{ℕ, _+_, _/_, _<_, _≤_}
-use native.Mathlib.Nat.{zero-mul}
+use native.Mathlib.Nat.{zero-mul, le-of-suc-le-suc}
 use native.Mathlib.Omega.{arith}
 use borrow.Author.Tests.{eqb-true, not-false}
 use lib.Dec.{eqb}
@@ -17,8 +17,9 @@ use Rattle.vector_kind.specs.Kinds.{isGhash, isVs, hasVs1Group}
 use Rattle.vector_element.specs.Element.{elementAt, blockPlace}
 use Rattle.vector_element.proofs.Sew.{SewFacts, sew-facts}
 use Rattle.vector_execute.proofs.Admitted.{Admitted, admitted-as, sew-allowed}
+use Rattle.vector_word.proofs.Writer.{FieldsFit, decoded-fit}
 use Rattle.theorems.specs.Execution.{pastUnit, unitBytes, placeIn, PlacesInFile, EveryPlaceInFile}
-use Rattle.theorems.proofs.Registers.{Aligned, Ready, ready, Numbers, numbers, element-fits, group-fits, aligned}
+use Rattle.theorems.proofs.Registers.{Aligned, Ready, ready, element-fits, group-fits, aligned}
 
 pub sew32 : (sew : ℕ) → not (eqb sew 32) ≡ false → sew ≡ 32
 sew32 sew h = eqb-true sew 32 (not-false (eqb sew 32) h)
@@ -54,16 +55,16 @@ module _ {fileLength : ℕ} {k : Kind} {f : Fields} {s : Settings} (a : Admitted
       go true e l = omega (arith, group-fits s settings (sew32 (s .sew) e) i l, settings .in-file r hr al)
       go false e l = omega (arith, element-fits s settings i l, settings .in-file r hr al)
 
-  all-inside : Numbers f → PlacesInFile fileLength k f s
+  all-inside : FieldsFit f → PlacesInFile fileLength k f s
   all-inside n = record {
-    vd = inside (f .vd) (n .vd-small) vd-of;
-    vs1 = λ e. inside (f .vs1) (n .vs1-small) (vs1-of e);
-    vs2 = λ e. inside (f .vs2) (n .vs2-small) (vs2-of e);
-    key = λ e. omega (arith, settings .register-in-file (f .vs2) (n .vs2-small), settings .sixteen);
+    vd = inside (f .vd) (le-of-suc-le-suc (n .vd)) vd-of;
+    vs1 = λ e. inside (f .vs1) (le-of-suc-le-suc (n .vs1)) (vs1-of e);
+    vs2 = λ e. inside (f .vs2) (le-of-suc-le-suc (n .vs2)) (vs2-of e);
+    key = λ e. omega (arith, settings .register-in-file (f .vs2) (le-of-suc-le-suc (n .vs2)), settings .sixteen);
     mask = λ i h.
         let here : i / 8 < registerBytes (s .vlen) = omega (arith, settings .masks-fit) in
         (here, omega (arith, settings .register-in-file 0 (omega arith), zero-mul (registerBytes (s .vlen))));
   }
 
 pub places-in-file : EveryPlaceInFile
-places-in-file fileLength word s number k f known = all-inside (admitted-as fileLength word s known number) (numbers word known)
+places-in-file fileLength word s number k f known = all-inside (admitted-as fileLength word s known number) (decoded-fit word known)

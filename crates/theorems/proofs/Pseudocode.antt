@@ -6,7 +6,7 @@ use mathlib.Core.Bool.{Bool, true, false, cond}
 use mathlib.Core.List.{List}
 use mathlib.Core.Path.{_≡_, refl, sym, ap, ap₂, subst, _∙_}
 use Prim.Native.Nat.{ℕ, zero, suc, _+_, _-_, _*_, _/_, _%_, _^_, _<_, _≤_, zero-le}
-use native.Mathlib.Nat.{div-eq-of-lt, zero-mod, mod-lt, mul-comm, mul-div-mul-right, zero-div, sub-zero, mul-zero, le-of-lt, le-of-eq, le-refl, mod-eq-of-lt, zero-add}
+use native.Mathlib.Nat.{div-eq-of-lt, zero-mod, mod-lt, mul-comm, mul-div-mul-right, zero-div, sub-zero, mul-zero, le-of-lt, le-of-eq, le-refl, mod-eq-of-lt, zero-add, le-of-suc-le-suc}
 use native.Mathlib.Omega.{arith}
 use lib.Bits.{bitXor, xor-mod, xor-shr}
 use borrow.Author.Tests.{le-leb}
@@ -47,11 +47,12 @@ use Rattle.vector_ghash.specs.declared.GhashMultiplier.the-variants.{YXorX, YAl
 use Rattle.vector_ghash.specs.GhashWords.{group, multiplierOf, vvStep, vsStep, ghashVv, ghashVs}
 use Rattle.vector_execute.specs.Execute.{doneKnown, done, executed}
 use Rattle.vector_execute.proofs.Admitted.{Admitted, admitted-as, performed}
+use Rattle.vector_word.proofs.Writer.{FieldsFit, decoded-fit}
 use Rattle.theorems.specs.Execution.{unitOf, resultOf}
 use Rattle.theorems.specs.Pseudocode.{_!_, _xor_, shl, shr, turns, foreach, brev8, reversed, «get_velem», «set_velem», «X», «zext_or_truncate_to_sew», clmul, clmulh, Suffix, vv, vx, ifVv, VCLMUL, VCLMULH, EGW, multiplied, VGHSH, VGHSHVS, VGMUL, VGMULVV, pseudocode, FollowsPseudocode, widthOf, given, ElementsFollowPseudocode}
 use Rattle.theorems.proofs.Execution.{every-unit}
 use Rattle.theorems.proofs.Places.{sew32, settings, sews, vd-of}
-use Rattle.theorems.proofs.Registers.{Aligned, Ready, Numbers, numbers, group-fits}
+use Rattle.theorems.proofs.Registers.{Aligned, Ready, group-fits}
 use Rattle.theorems.proofs.Reversal.{turns-states, if-bit, reversed-xor, multiplied-is-product, brev8-xor, brev8-twice, brev8-read, write-brev8}
 
 -- ---- clmul and clmulh
@@ -279,7 +280,7 @@ module _ (f : Fields) (s : Settings) (file : List ℕ) (ready : Ready (length fi
 
 -- ---- a word of each kind
 
-module _ (f : Fields) (s : Settings) (scalar : ℕ) (file : List ℕ) (n : Numbers f) (entry : Kept file file) where
+module _ (f : Fields) (s : Settings) (scalar : ℕ) (file : List ℕ) (n : FieldsFit f) (entry : Kept file file) where
   -- the pseudocode's file is the word's
   same : (k : Kind) {a b : List ℕ} → (a ≡ b) × Kept file b → doneKnown k f s scalar file ≡ a → pseudocode k f s scalar file ≡ b
       → (doneKnown k f s scalar file ≡ pseudocode k f s scalar file) × Kept file (doneKnown k f s scalar file)
@@ -292,10 +293,10 @@ module _ (f : Fields) (s : Settings) (scalar : ℕ) (file : List ℕ) (n : Numbe
   by-kind VclmulVx a = same VclmulVx (elements-same f s scalar file (settings a) (sews a) Low vx entry) refl refl
   by-kind VclmulhVv a = same VclmulhVv (elements-same f s scalar file (settings a) (sews a) High vv entry) refl refl
   by-kind VclmulhVx a = same VclmulhVx (elements-same f s scalar file (settings a) (sews a) High vx entry) refl refl
-  by-kind VghshVv a = same VghshVv (vv-same f s file (settings a) (n .vd-small) (vd-of a) (sew32 (s .sew) (a .not4)) YXorX entry) refl refl
-  by-kind VghshVs a = same VghshVs (vs-same f s file (settings a) (n .vd-small) (vd-of a) (sew32 (s .sew) (a .not4)) YXorX entry) refl refl
-  by-kind VgmulVv a = same VgmulVv (vv-same f s file (settings a) (n .vd-small) (vd-of a) (sew32 (s .sew) (a .not4)) YAlone entry) refl refl
-  by-kind VgmulVs a = same VgmulVs (vs-same f s file (settings a) (n .vd-small) (vd-of a) (sew32 (s .sew) (a .not4)) YAlone entry) refl refl
+  by-kind VghshVv a = same VghshVv (vv-same f s file (settings a) (le-of-suc-le-suc (n .vd)) (vd-of a) (sew32 (s .sew) (a .not4)) YXorX entry) refl refl
+  by-kind VghshVs a = same VghshVs (vs-same f s file (settings a) (le-of-suc-le-suc (n .vd)) (vd-of a) (sew32 (s .sew) (a .not4)) YXorX entry) refl refl
+  by-kind VgmulVv a = same VgmulVv (vv-same f s file (settings a) (le-of-suc-le-suc (n .vd)) (vd-of a) (sew32 (s .sew) (a .not4)) YAlone entry) refl refl
+  by-kind VgmulVs a = same VgmulVs (vs-same f s file (settings a) (le-of-suc-le-suc (n .vd)) (vd-of a) (sew32 (s .sew) (a .not4)) YAlone entry) refl refl
 
 -- ---- the statements
 
@@ -309,7 +310,7 @@ module _ (word : ℕ) (s : Settings) (scalar : ℕ) (file : List ℕ) (bytes : A
 
   follows : (executed word s scalar file ≡ pseudocode k f s scalar file) × Kept file (executed word s scalar file)
   follows =
-      let p = by-kind f s scalar file (numbers word known) entry k (admitted-as (length file) word s known number) in
+      let p = by-kind f s scalar file (decoded-fit word known) entry k (admitted-as (length file) word s known number) in
       (the-word ∙ p .0, subst (Kept file) (sym the-word) (p .1))
 
   -- what an element or element group holds

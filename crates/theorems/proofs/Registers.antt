@@ -4,22 +4,17 @@
 use mathlib.Core.Bool.{true, false, not, _||_}
 use mathlib.Core.Logic.{⊎-elim}
 use mathlib.Core.Path.{_≡_, refl, sym, ap, subst}
-use Prim.Native.Nat.{ℕ, _+_, _*_, _/_, _%_, _^_, _<_, _≤_}
+use Prim.Native.Nat.{ℕ, _+_, _*_, _/_, _%_, _<_, _≤_}
 use native.Mathlib.Decide.{decLe}
-use native.Mathlib.Nat.{le-div-iff-mul-le, div-add-mod', mul-le-mul-right, suc-mul, le-mul-of-pos-right, le-trans, lt-of-not-le, mul-left-comm, add-mul, mod-lt, zero-lt-suc, eq-or-lt-of-le, le-of-suc-le-suc, le-of-eq}
+use native.Mathlib.Nat.{le-div-iff-mul-le, div-add-mod', mul-le-mul-right, suc-mul, le-mul-of-pos-right, le-trans, lt-of-not-le, mul-left-comm, add-mul, eq-or-lt-of-le, le-of-eq}
 use native.Mathlib.Omega.{arith}
 use borrow.Author.Tests.{eqb-true, ltb-false, not-false}
 use lib.Dec.{eqb, ltb}
 use Rattle.vector_registers.specs.declared.settings.Settings.{Settings}
-use Rattle.vector_word.specs.declared.Fields.{Fields}
-use Rattle.vector_kind.specs.declared.Kind.{Kind}
-use Rattle.vector_word.specs.declared.Word.the-variants.{Known}
 use Rattle.vector_registers.specs.Settings.{applies1, applies3, registerBytes, fileBytes, groupRegisters, groupLength, timesLmul, vlenAllowed, sewAllowed, lmulAllowed, vlmax, misaligned}
-use Rattle.vector_word.specs.Word.{kinds, decode}
 use Rattle.vector_registers.proofs.Allowed.{each-vlen, each-sew, each-group, times-lmul}
 use Rattle.vector_group.proofs.Groups.{last-register, registers-within}
 use Rattle.vector_word.proofs.Tests.{or-false}
-use Rattle.vector_word.proofs.Writer.{among-row}
 use Rattle.vector_element.proofs.Sew.{sew-facts}
 use Rattle.theorems.specs.Execution.{Within}
 
@@ -102,23 +97,6 @@ group-fits s ready sew32 i h =
     omega arith
 
 -- ---- what the fields tell
-
-pub record Numbers (f : Fields) : Type 0 where
-  pub vm-small : f .vm ≤ 1
-  pub vd-small : f .vd ≤ 31
-  pub vs1-small : f .vs1 ≤ 31
-  pub vs2-small : f .vs2 ≤ 31
-
-pub numbers : (word : ℕ) {k : Kind} {f : Fields} → decode word ≡ Known k f → Numbers f
-unfolding decode
-numbers word {k} {f} e =
-    subst Numbers (among-row kinds word e .1)
-    (record {
-      vm-small = le-of-suc-le-suc (mod-lt (word / 2 ^ 25) (zero-lt-suc 1));
-      vd-small = le-of-suc-le-suc (mod-lt (word / 2 ^ 7) (zero-lt-suc 31));
-      vs1-small = le-of-suc-le-suc (mod-lt (word / 2 ^ 15) (zero-lt-suc 31));
-      vs2-small = le-of-suc-le-suc (mod-lt (word / 2 ^ 20) (zero-lt-suc 31));
-    })
 
 pub aligned : (lmul r : ℕ) → misaligned lmul r ≡ false → r % groupRegisters lmul ≡ 0
 aligned lmul r h = eqb-true (r % groupRegisters lmul) 0 (not-false (eqb (r % groupRegisters lmul) 0) h)

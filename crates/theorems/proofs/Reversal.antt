@@ -6,19 +6,20 @@ use mathlib.Core.Bool.{cond}
 use mathlib.Core.List.{List}
 use mathlib.Core.Path.{_≡_, refl, sym, ap, ap₂, subst, _∙_}
 use Prim.Native.Nat.{ℕ, zero, suc, _+_, _-_, _*_, _/_, _%_, _^_, _<_, _≤_}
-use native.Mathlib.Nat.{add-zero, add-suc, add-assoc, add-mul, zero-mul, one-mul, mul-one, mul-assoc, mul-comm, zero-lt-suc, lt-of-lt-of-le, le-of-eq, pow-suc, pow-succ', one-le-pow, mod-lt, mod-one, div-one, div-eq-of-lt, mod-eq-of-lt, zero-add}
+use native.Mathlib.Nat.{add-zero, add-suc, add-assoc, add-mul, zero-mul, one-mul, mul-one, mul-assoc, zero-lt-suc, lt-of-lt-of-le, le-of-eq, pow-suc, pow-succ', one-le-pow, mod-lt, mod-one, div-one, div-eq-of-lt, mod-eq-of-lt, zero-add, add-comm}
 use native.Mathlib.Numerals.{add-one, one-add}
 use native.Mathlib.Omega.{arith}
 use lib.Arith.{digits-lt, digits-div, digits-mod, mod-mul}
 use lib.Bits.{bitXor, xor-block, xor-shr, xor-mod, xor-zero-r}
 use lib.Dec.{eqb}
 use lib.ListN.{getD, set}
-use lib.Pow.{pow-add, pow-pos, shl-lt, shr-shr, field, mod-mod-pow}
+use lib.Pow.{pow-pos, shl-lt, shr-shr, field, mod-mod-pow}
 use lib.Seq.{sets}
 use Rattle.octets.specs.BigEndian.{beAt, beBytes}
 use Rattle.octets.specs.Bytes.{AreBytes}
 use Rattle.gf128.specs.Field.{coeffOf, timesXOf, shiftedOf, sumOf, productOf, product, reduction}
 use Rattle.octets.proofs.BigEndian.{beAt-split, beAt-lt, sets-split, bytes-bits}
+use Rattle.gf128.proofs.Halves.{shl-shl}
 use Rattle.gf128.proofs.Places.{digit-ind, digit-map, mod2-lt, coeffOf-lt, shiftedOf-lt, reduction-lt}
 use Rattle.gf128.proofs.Xor.{xor-half, xor-odd}
 use Rattle.octets.specs.LittleEndian.{readLe, writeLe}
@@ -81,7 +82,7 @@ reversed-split a (suc b) x =
     ∙ sym (add-assoc (x % 2 * 2 ^ (a + b)) (reversed b (x / 2) * 2 ^ a) (reversed a (x / 2 / 2 ^ b)))
     ∙ ap₂ (λ (y z : ℕ). y + reversed a z)
     (ap (λ (p : ℕ). p + reversed b (x / 2) * 2 ^ a)
-    (ap (λ (p : ℕ). x % 2 * p) (pow-add 2 a b ∙ mul-comm (2 ^ a) (2 ^ b)) ∙ sym (mul-assoc (x % 2) (2 ^ b) (2 ^ a)))
+    (ap (λ (k : ℕ). x % 2 * 2 ^ k) (add-comm a b) ∙ shl-shl (x % 2) b a)
     ∙ sym (add-mul (x % 2 * 2 ^ b) (reversed b (x / 2)) (2 ^ a)))
     (shr-shr x 1 b ∙ ap (λ (k : ℕ). x / 2 ^ k) (one-add b))
 

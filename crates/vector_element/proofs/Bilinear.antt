@@ -10,8 +10,9 @@ use native.Mathlib.Decide.{decLe}
 use native.Mathlib.Numerals.{one-add}
 use native.Mathlib.Omega.{arith}
 use lib.Arith.{lt-one}
-use lib.Bits.{bitXor, xor-lt, xor-shr, xor-zero-r, xor-shifted, xor-comm}
-use lib.Pow.{pow-pos, pow-add, pow-mono, shl-lt, shr-shr, recompose, mod-pow-add, mod-mod-pow, field}
+use lib.Bits.{bitXor, xor-lt, xor-shr, xor-zero-r}
+use lib.Pow.{pow-pos, pow-mono, shl-lt, shr-shr, recompose, mod-mod-pow, field}
+use Rattle.gf128.proofs.Halves.{shl-shl, top-digit}
 use Rattle.gf128.proofs.Places.{digit-ind, digit-xor, xor-digit, digit-lt}
 use Rattle.gf128.proofs.Xor.{xor-assoc, xor-odd, xor-swap4, xor-shl}
 use Rattle.vector_element.specs.Clmul.{clmul, clmul64, lowHalf, highHalf}
@@ -24,28 +25,6 @@ bit-past b w n hb h = ap (λ (x : ℕ). x % 2) (div-eq-of-lt (lt-of-lt-of-le hb 
 
 term-past : (a b w n : ℕ) → b < 2 ^ w → w ≤ n → bitOf b n * (a * 2 ^ n) ≡ 0
 term-past a b w n hb h = ap (λ (d : ℕ). d * (a * 2 ^ n)) (bit-past b w n hb h) ∙ zero-mul (a * 2 ^ n)
-
-term-lt : (a b w n : ℕ) → a < 2 ^ w → b < 2 ^ w → Dec (w ≤ n) → bitOf b n * (a * 2 ^ n) < 2 ^ (w + w)
-term-lt a b w n ha hb (yes h) = subst (λ (x : ℕ). x < 2 ^ (w + w)) (sym (term-past a b w n hb h)) (pow-pos (w + w))
-term-lt a b w n ha hb (no h) =
-    digit-lt (bitOf b n) (a * 2 ^ n) (2 ^ (w + w)) (bit-lt b n)
-    (lt-of-lt-of-le (shl-lt w n ha) (pow-mono (let l = lt-of-not-le h in omega arith)))
-
-steps-lt : (a b w n : ℕ) → a < 2 ^ w → b < 2 ^ w → clmul n a b < 2 ^ (w + w)
-unfolding clmul
-steps-lt a b w zero ha hb = pow-pos (w + w)
-steps-lt a b w (suc n) ha hb =
-    xor-lt (w + w) (clmul n a b) (bitOf b n * (a * 2 ^ n)) (steps-lt a b w n ha hb) (term-lt a b w n ha hb (decLe w n))
-
-pub sum-lt : (a b w : ℕ) → a < 2 ^ w → b < 2 ^ w → clmul64 a b < 2 ^ (w + w)
-unfolding clmul64
-sum-lt a b w ha hb = steps-lt a b w 64 ha hb
-
-pub product-lt : (a b w : ℕ) → a < 2 ^ w → b < 2 ^ w → clmul64 a b < 2 ^ (2 * w)
-product-lt a b w ha hb = subst (λ (k : ℕ). clmul64 a b < 2 ^ k) (sym (two-mul w)) (sum-lt a b w ha hb)
-
-pub halves : (a b w : ℕ) → a < 2 ^ w → b < 2 ^ w → highHalf w (clmul64 a b) * 2 ^ w + lowHalf w (clmul64 a b) ≡ clmul64 a b
-halves a b w ha hb = recompose w w (sum-lt a b w ha hb)
 
 -- steps past the width change nothing
 pub enough : (a b w d : ℕ) → b < 2 ^ w → clmul (w + d) a b ≡ clmul w a b
@@ -74,6 +53,20 @@ steps-most (suc n) a b w ha =
     more : 2 ^ (w + n) ≤ 2 ^ (w + suc n)
     more = pow-mono {i = w + n} {j = w + suc n} (omega arith)
 
+pub sum-lt : (a b w : ℕ) → a < 2 ^ w → b < 2 ^ w → clmul64 a b < 2 ^ (w + w)
+unfolding clmul64
+sum-lt a b w ha hb = go (decLe w 64)
+  where
+    go : Dec (w ≤ 64) → clmul64 a b < 2 ^ (w + w)
+    go (yes h) = subst (λ (x : ℕ). x < 2 ^ (w + w)) (sym (whole a b w hb h)) (steps-most w a b w ha)
+    go (no h) = lt-of-lt-of-le (steps-most 64 a b w ha) (pow-mono {i = w + 64} {j = w + w} (let l = lt-of-not-le h in omega arith))
+
+pub product-lt : (a b w : ℕ) → a < 2 ^ w → b < 2 ^ w → clmul64 a b < 2 ^ (2 * w)
+product-lt a b w ha hb = subst (λ (k : ℕ). clmul64 a b < 2 ^ k) (sym (two-mul w)) (sum-lt a b w ha hb)
+
+pub halves : (a b w : ℕ) → a < 2 ^ w → b < 2 ^ w → highHalf w (clmul64 a b) * 2 ^ w + lowHalf w (clmul64 a b) ≡ clmul64 a b
+halves a b w ha hb = recompose w w (sum-lt a b w ha hb)
+
 -- the first n steps, then w more
 pub more-steps : (n w a b : ℕ) → clmul (n + w) a b ≡ bitXor (clmul n a b) (clmul w a (b / 2 ^ n) * 2 ^ n)
 unfolding clmul
@@ -88,7 +81,7 @@ more-steps n (suc w) a b =
     term : bitOf b (n + w) * (a * 2 ^ (n + w)) ≡ bitOf (b / 2 ^ n) w * (a * 2 ^ w) * 2 ^ n
     term =
         ap₂ _*_ (ap (λ (x : ℕ). x % 2) (sym (shr-shr b n w)))
-        (ap (λ (x : ℕ). a * x) (ap (λ (k : ℕ). 2 ^ k) (add-comm n w) ∙ pow-add 2 w n) ∙ sym (mul-assoc a (2 ^ w) (2 ^ n)))
+        (ap (λ (k : ℕ). a * 2 ^ k) (add-comm n w) ∙ shl-shl a w n)
         ∙ sym (mul-assoc (bitOf (b / 2 ^ n) w) (a * 2 ^ w) (2 ^ n))
 
 -- ---- sums in either factor
@@ -125,8 +118,8 @@ moved-left (suc n) k a b =
 -- ---- the factors may be exchanged
 
 -- bit n of a number and those below it
-top-bit : (b n : ℕ) → bitXor (bitOf b n * 2 ^ n) (b % 2 ^ n) ≡ b % 2 ^ suc n
-top-bit b n = xor-shifted (bitOf b n) n (b % 2 ^ n) (mod-lt b (pow-pos n)) ∙ sym (mod-pow-add b 1 n) ∙ ap (λ (j : ℕ). b % 2 ^ j) (one-add n)
+top-bit : (b n : ℕ) → bitXor (b % 2 ^ n) (bitOf b n * 2 ^ n) ≡ b % 2 ^ suc n
+top-bit b n = top-digit b 1 n ∙ ap (λ (j : ℕ). b % 2 ^ j) (one-add n)
 
 pub power-left : (n k b : ℕ) → clmul n (2 ^ k) b ≡ b % 2 ^ n * 2 ^ k
 unfolding clmul
@@ -134,7 +127,7 @@ power-left zero k b = sym (ap (λ (v : ℕ). v * 2 ^ k) (mod-one b) ∙ zero-mul
 power-left (suc n) k b =
     ap₂ bitXor (power-left n k b) (ap (λ (v : ℕ). bitOf b n * v) (mul-comm (2 ^ k) (2 ^ n)) ∙ sym (mul-assoc (bitOf b n) (2 ^ n) (2 ^ k)))
     ∙ sym (xor-shl (b % 2 ^ n) (bitOf b n * 2 ^ n) k)
-    ∙ ap (λ (v : ℕ). v * 2 ^ k) (xor-comm (b % 2 ^ n) (bitOf b n * 2 ^ n) ∙ top-bit b n)
+    ∙ ap (λ (v : ℕ). v * 2 ^ k) (top-bit b n)
 
 -- one bit as the left factor
 bit-left : (n k d b : ℕ) → d < 2 → b < 2 ^ n → clmul n (d * 2 ^ k) b ≡ d * (b * 2 ^ k)
@@ -160,8 +153,7 @@ unfolding clmul
 swap zero m a b ha hb = sym (ap (λ (x : ℕ). clmul m x a) (lt-one hb) ∙ zero-left m a)
 swap (suc n) m a b ha hb =
     ap₂ bitXor (sym (low-right n n a b (le-refl n)) ∙ swap n m a (b % 2 ^ n) ha (mod-lt b (pow-pos n))) (sym (bit-left m n (bitOf b n) a (bit-lt b n) ha))
-    ∙ xor-comm (clmul m (b % 2 ^ n) a) (clmul m (bitOf b n * 2 ^ n) a)
-    ∙ sym (sum-left m (bitOf b n * 2 ^ n) (b % 2 ^ n) a)
+    ∙ sym (sum-left m (b % 2 ^ n) (bitOf b n * 2 ^ n) a)
     ∙ ap (λ (x : ℕ). clmul m x a) (top-bit b n ∙ mod-eq-of-lt hb)
 
 pub product-comm : (a b : ℕ) → a < 2 ^ 64 → b < 2 ^ 64 → clmul64 a b ≡ clmul64 b a

@@ -3,14 +3,14 @@
 -- Assumes nothing.
 use mathlib.Core.Path.{_≡_, refl, sym, ap, ap₂, _∙_}
 use Prim.Native.Nat.{ℕ, zero, suc, _+_, _*_, _/_, _%_, _^_, _<_}
-use native.Mathlib.Nat.{lt-suc-self, le-step, le-refl, add-comm, mod-one, mul-add, mul-zero, zero-mul, mul-suc, mod-lt, mod-eq-of-lt}
-use lib.Bits.{bitXor, xor-comm, xor-shifted}
-use lib.Pow.{pow-pos, high, mod-pow-add}
+use native.Mathlib.Nat.{lt-suc-self, le-step, le-refl, add-comm, mod-one, mul-add, mul-zero, zero-mul, mul-suc, mod-eq-of-lt}
+use lib.Bits.{bitXor}
+use lib.Pow.{high}
+use Rattle.gf128.proofs.Halves.{shl-shl, top-digit}
 use Rattle.gf128.proofs.Xor.{xor-swap4, xor-shl}
 use Rattle.vector_element.specs.Clmul.{clmul, clmul64, lowHalf, highHalf}
 use Rattle.vector_element.specs.Pieces.{piece, clmul8, sum, sumOfProducts, WholeFromPieces, BothHalves}
 use Rattle.vector_element.proofs.Bilinear.{more-steps, sum-left, moved-left, low-right, zero-left}
-use Rattle.vector_element.proofs.Carryless.{shl-shl}
 
 -- ---- sums
 
@@ -37,8 +37,7 @@ digits-left w n zero a b =
     ap (λ (k : ℕ). clmul n (a % 2 ^ k) b) (mul-zero w) ∙ ap (λ (x : ℕ). clmul n x b) (mod-one a) ∙ zero-left n b
 digits-left w n (suc m) a b =
     ap (λ (k : ℕ). clmul n (a % 2 ^ k) b) (mul-suc w m ∙ add-comm (w * m) w)
-    ∙ ap (λ (x : ℕ). clmul n x b)
-    (mod-pow-add a w (w * m) ∙ sym (xor-shifted d (w * m) rest (mod-lt a (pow-pos (w * m)))) ∙ xor-comm (d * 2 ^ (w * m)) rest)
+    ∙ ap (λ (x : ℕ). clmul n x b) (sym (top-digit a w (w * m)))
     ∙ sum-left n rest (d * 2 ^ (w * m)) b
     ∙ ap₂ bitXor (digits-left w n m a b) (moved-left n (w * m) d b)
   where

@@ -3,13 +3,13 @@
 use mathlib.Core.Path.{_≡_, refl, sym, ap, ap₂, _∙_}
 use Prim.Native.Nat.{ℕ, zero, suc, _+_, _-_, _*_, _/_, _%_, _^_, _<_}
 use native.Mathlib.Numerals.{add-one}
-use native.Mathlib.Nat.{mul-mod-left, mul-div-mul-right, add-assoc, lt-of-le-of-lt, mod-lt, mul-add-div-right, add-zero}
+use native.Mathlib.Nat.{add-comm}
 use native.Mathlib.Omega.{arith}
-use lib.Bits.{bitXor, xor-lt, xor-zero-r, xor-comm, xor-block, xor-shifted}
-use lib.Pow.{pow-pos, shr-lt, shr-le, shl-shr, shr-shr, split, mod-pow-add}
+use lib.Bits.{bitXor, xor-comm, xor-shifted}
+use lib.Pow.{shr-lt, shl-shr, shr-shr}
+use Rattle.gf128.proofs.Halves.{shl-shl, shl-mod, high-xor, halves-moved, moved-lt}
 use Rattle.gf128.proofs.Xor.{xor-assoc, xor-swap4, xor-shl}
 use Rattle.vector_element.specs.Pieces.{piece, clmul8, sum, sumOfProducts, lanes, evenProducts}
-use Rattle.vector_element.proofs.Carryless.{shl-shl}
 use Rattle.vector_element.proofs.FromPieces.{placed}
 use Rattle.vector_element.proofs.Lanes.{lanes-eq}
 
@@ -55,45 +55,30 @@ module _ (j d r e o top low : ℕ) (place : 8 * j + d ≡ 56) (below : low < 2 ^
   abbrev gained : ℕ
   gained = bitXor top e
 
-  gains : gained * 2 ^ 64 + low ≡ bitXor (r * 2 ^ d) (e * 2 ^ 56) * 2 ^ 8
-  gains =
-      ap (λ (x : ℕ). gained * 2 ^ 64 + x) (sym (xor-zero-r low))
-      ∙ sym (xor-block 64 top e low 0 below (pow-pos 64))
-      ∙ ap₂ bitXor (held ∙ shl-shl r d 8) (add-zero (e * 2 ^ 64) ∙ shl-shl e 56 8)
-      ∙ sym (xor-shl (r * 2 ^ d) (e * 2 ^ 56) 8)
-
   abbrev lower : ℕ
-  lower = bitXor (low / 2 ^ 8) (gained * 2 ^ 56 % 2 ^ 64)
-
-  lower-is : lower ≡ gained * 2 ^ 56 % 2 ^ 64 + low / 2 ^ 8
-  lower-is =
-      let cut : gained * 2 ^ 56 % 2 ^ 64 ≡ gained % 2 ^ 8 * 2 ^ 56
-      = mod-pow-add (gained * 2 ^ 56) 8 56
-      ∙ ap₂ (λ (x y : ℕ). x % 2 ^ 8 * 2 ^ 56 + y) (shl-shr gained 56) (mul-mod-left gained (2 ^ 56)) ∙ add-zero (gained % 2 ^ 8 * 2 ^ 56) in
-      xor-comm (low / 2 ^ 8) (gained * 2 ^ 56 % 2 ^ 64)
-      ∙ ap (λ (x : ℕ). bitXor x (low / 2 ^ 8)) cut
-      ∙ xor-shifted (gained % 2 ^ 8) 56 (low / 2 ^ 8) (shr-lt 56 8 below)
-      ∙ ap (λ (x : ℕ). x + low / 2 ^ 8) (sym cut)
+  lower = low / 2 ^ 8 + gained % 2 ^ 8 * 2 ^ 56
 
   comes-down : gained / 2 ^ 8 * 2 ^ 64 + lower ≡ bitXor (r * 2 ^ d) (e * 2 ^ 56)
   comes-down =
-      ap (λ (x : ℕ). gained / 2 ^ 8 * 2 ^ 64 + x) lower-is
-      ∙ sym (add-assoc (gained / 2 ^ 8 * 2 ^ 64) (gained * 2 ^ 56 % 2 ^ 64) (low / 2 ^ 8))
-      ∙ ap (λ (x : ℕ). x * 2 ^ 64 + gained * 2 ^ 56 % 2 ^ 64 + low / 2 ^ 8) (sym (mul-div-mul-right gained (2 ^ 8) (pow-pos 56)))
-      ∙ ap (λ (x : ℕ). x + low / 2 ^ 8) (split (gained * 2 ^ 56) 64)
-      ∙ sym (mul-add-div-right (pow-pos 8) (gained * 2 ^ 56) low)
-      ∙ ap (λ (x : ℕ). (x + low) / 2 ^ 8) (sym (shl-shl gained 56 8))
-      ∙ ap (λ (x : ℕ). x / 2 ^ 8) gains
+      sym (halves-moved 56 8 gained low)
+      ∙ ap (λ (x : ℕ). x / 2 ^ 8)
+      (high-xor 64 top e low below ∙ ap₂ bitXor (held ∙ shl-shl r d 8) (shl-shl e 56 8) ∙ sym (xor-shl (r * 2 ^ d) (e * 2 ^ 56) 8))
       ∙ shl-shr (bitXor (r * 2 ^ d) (e * 2 ^ 56)) 8
 
-  gathered : bitXor (gained / 2 ^ 8) o * 2 ^ 64 + lower ≡ bitXor r (bitXor e (o * 2 ^ 8) * 2 ^ (8 * j)) * 2 ^ d
+  lower-is : bitXor (low / 2 ^ 8) (gained * 2 ^ 56 % 2 ^ 64) ≡ lower
+  lower-is =
+      ap (bitXor (low / 2 ^ 8)) (shl-mod gained 8 56)
+      ∙ xor-comm (low / 2 ^ 8) (gained % 2 ^ 8 * 2 ^ 56)
+      ∙ xor-shifted (gained % 2 ^ 8) 56 (low / 2 ^ 8) (shr-lt 56 8 below)
+      ∙ add-comm (gained % 2 ^ 8 * 2 ^ 56) (low / 2 ^ 8)
+
+  gathered : bitXor (gained / 2 ^ 8) o * 2 ^ 64 + bitXor (low / 2 ^ 8) (gained * 2 ^ 56 % 2 ^ 64)
+      ≡ bitXor r (bitXor e (o * 2 ^ 8) * 2 ^ (8 * j)) * 2 ^ d
   gathered =
-      let lower-lt : lower < 2 ^ 64
-      = xor-lt 64 (low / 2 ^ 8) (gained * 2 ^ 56 % 2 ^ 64) (lt-of-le-of-lt (shr-le low 8) below) (mod-lt (gained * 2 ^ 56) (pow-pos 64)) in
       let added = bitXor e (o * 2 ^ 8) in
-      ap (λ (x : ℕ). bitXor (gained / 2 ^ 8) o * 2 ^ 64 + x) (sym (xor-zero-r lower))
-      ∙ sym (xor-block 64 (gained / 2 ^ 8) o lower 0 lower-lt (pow-pos 64))
-      ∙ ap₂ bitXor comes-down (add-zero (o * 2 ^ 64) ∙ shl-shl o 8 56)
+      ap (λ (x : ℕ). bitXor (gained / 2 ^ 8) o * 2 ^ 64 + x) lower-is
+      ∙ high-xor 64 (gained / 2 ^ 8) o lower (moved-lt 56 8 gained low below)
+      ∙ ap₂ bitXor comes-down (shl-shl o 8 56)
       ∙ xor-assoc (r * 2 ^ d) (e * 2 ^ 56) (o * 2 ^ 8 * 2 ^ 56)
       ∙ ap (bitXor (r * 2 ^ d))
       (sym (xor-shl e (o * 2 ^ 8) 56) ∙ ap (λ (k : ℕ). added * 2 ^ k) (sym place) ∙ shl-shl added (8 * j) d)

@@ -13,11 +13,11 @@ use lib.ListN.{length, getD, set, length-set}
 use lib.Seq.{getD-set-same, getD-set-other}
 use borrow.Author.Count.{below-more}
 use lib.Bits.{bitXor, bitAnd, xor-lt, xor-self, xor-comm, xor-shifted, and-zero-r, and-le-r, and-mask, and-mod, and-block}
-use lib.Pow.{pow-pos, pow-add, pow-mono, shl-lt, shl-exact, split, high, mod-pow-add}
+use lib.Pow.{pow-pos, pow-add, pow-mono, shl-lt, shl-exact, split, high}
+use Rattle.gf128.proofs.Halves.{top-digit, field-in-low}
 use Rattle.gf128.proofs.Xor.{xor-shl}
 use Rattle.vector_element.specs.Pieces.{piece, clmul8, sum, lanes, lane, evenPieces, evenProducts, LanesApart}
 use Rattle.vector_element.proofs.Bilinear.{enough, steps-most, sum-right, moved-right, power-left, swap}
-use Rattle.vector_element.proofs.Carryless.{field-in-low}
 use Rattle.vector_element.proofs.FromPieces.{sum-eq, sum-xor, sum-shl}
 
 -- ---- numbers in lanes
@@ -170,7 +170,7 @@ pub looked-up : (a b : ℕ)
 looked-up a b =
     ap (bitXor (evenProducts a low)) (window-moved a up 4 (mod-lt (b / 2 ^ 4) (pow-pos 4)) (omega arith))
     ∙ sym (products-xor a low (up * 2 ^ 4))
-    ∙ ap (evenProducts a) (xor-comm low (up * 2 ^ 4) ∙ xor-shifted up 4 low (mod-lt b (pow-pos 4)) ∙ sym (mod-pow-add b 4 4))
+    ∙ ap (evenProducts a) (top-digit b 4 4)
   where
     low : ℕ
     low = b % 2 ^ 4

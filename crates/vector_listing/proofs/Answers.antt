@@ -1,7 +1,7 @@
 -- What the listing answers, by the buffer's length: `short`, `fits`; and a decoded word's registers (`registers`). Assumes nothing.
 use mathlib.Core.Bool.{cond}
 use mathlib.Core.List.{List, _++_}
-use mathlib.Core.Path.{_≡_, refl, sym, ap, subst, _∙_}
+use mathlib.Core.Path.{_≡_, refl, sym, ap, _∙_}
 use Prim.Native.Nat.{ℕ, _+_, _≤_, _<_}
 use native.Mathlib.Nat.{zero-add}
 use native.Mathlib.Omega.{arith}
@@ -13,10 +13,10 @@ use Rattle.vector_kind.specs.declared.Kind.{Kind}
 use Rattle.vector_word.specs.declared.Fields.{Fields}
 use Rattle.vector_word.specs.declared.Word.{Word}
 use Rattle.vector_word.specs.declared.Word.the-variants.{Known, Unknown}
-use Rattle.vector_word.specs.Word.{kinds, decode}
-use Rattle.vector_word.proofs.Writer.{among-row}
+use Rattle.vector_word.specs.Word.{decode}
+use Rattle.vector_word.proofs.Writer.{decoded-fit}
 use Rattle.vector_listing.specs.declared.Listed.{Listed}
-use Rattle.vector_listing.specs.Listing.{Registers, RegistersOf, Puts, listed, listedInto}
+use Rattle.vector_listing.specs.Listing.{RegistersOf, Puts, listed, listedInto}
 use Rattle.vector_listing.specs.Text.{text}
 use Rattle.vector_listing.proofs.Lengths.{text-length}
 
@@ -48,10 +48,8 @@ module _ (buffer : List ℕ) (k : Kind) (f : Fields) where
       )
 
 pub registers : (word : ℕ) → RegistersOf (decode word)
-unfolding decode
 registers word = go (decode word) refl
   where
     go : (w : Word) → decode word ≡ w → RegistersOf w
-    go (Known k f) e =
-        subst Registers (among-row kinds word e .1) (record { vs2 = omega arith; vs1 = omega arith; vd = omega arith })
+    go (Known k f) e = let fit = decoded-fit word e in record { vs2 = fit .vs2; vs1 = fit .vs1; vd = fit .vd }
     go Unknown e = tt

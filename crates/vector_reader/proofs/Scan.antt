@@ -184,10 +184,10 @@ scan-fields k f a =
     let rest2 = third (thirdOf k) (f .vs1) ++ mask (f .vm) in
     let rest1 = (ascii ", v" ++ decimal (f .vs2)) ++ rest2 in
     let at1 : drop (operandsAt k) s ≡ decimal (f .vd) ++ rest1 = drop-append-add (mnemonic k) ((ascii " v" ++ decimal (f .vd)) ++ rest1) 2 in
-    let small1 : f .vd < 100 = omega (arith, a .vd) in
-    let small2 : f .vs2 < 100 = omega (arith, a .vs2) in
+    let small1 : f .vd < 100 = omega (arith, a .fields .vd) in
+    let small2 : f .vs2 < 100 = omega (arith, a .fields .vs2) in
     let d = scan-decimal s (operandsAt k) (f .vd) rest1 small1 at1 refl in
     let m = scan-next s (scanned s (operandsAt k) .end) (f .vs2) 118 rest2 small2 (d .1) (no-digit-third (thirdOf k) (f .vs1) (f .vm)) in
     ap (λ (b : Bool). fieldsAfter b s (scanned s (operandsAt k)) (scanned s (scanned s (operandsAt k) .end + 3))) (has-there k)
-    ∙ scan-third s (scanned s (operandsAt k)) (scanned s (scanned s (operandsAt k) .end + 3)) f (a .vm) (a .vs1) (d .0) (m .0)
+    ∙ scan-third s (scanned s (operandsAt k)) (scanned s (scanned s (operandsAt k) .end + 3)) f (a .fields .vm) (a .fields .vs1) (d .0) (m .0)
     (thirdOf k) (given-17 k f a) (m .1)

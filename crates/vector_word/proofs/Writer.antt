@@ -2,7 +2,7 @@
 -- Assumes nothing.
 use mathlib.Core.Bool.{Bool, true, false, cond, _&&_, and-eq-true-iff}
 use mathlib.Core.List.{List, [], _∷_}
-use mathlib.Core.Path.{_≡_, refl, sym, ap, _∙_}
+use mathlib.Core.Path.{_≡_, refl, sym, ap, subst, _∙_}
 use Prim.Native.Nat.{ℕ, _+_, _*_, _/_, _^_, _<_}
 use native.Mathlib.Omega.{arith}
 use lib.Dec.{eqb, ltb}
@@ -20,11 +20,15 @@ use Rattle.vector_word.proofs.Tests.{and-next}
 
 -- ---- tests that hold
 
-pub record Admitted (r : Row) (f : Fields) : Type 0 where
+-- each field has its bits
+pub record FieldsFit (f : Fields) : Type 0 where
   pub vm : f .vm < 2
   pub vs2 : f .vs2 < 32
   pub vs1 : f .vs1 < 32
   pub vd : f .vd < 32
+
+pub record Admitted (r : Row) (f : Fields) : Type 0 where
+  pub fields : FieldsFit f
   pub vm-allowed : allows (r .vm) (f .vm) ≡ true
   pub vs1-allowed : allows (r .vs1) (f .vs1) ≡ true
 
@@ -36,10 +40,12 @@ admitted r f h =
     let h4 = and-eq-true-iff (ltb (f .vd) 32) _ .0 (h3 .1) in
     let h5 = and-eq-true-iff (allows (r .vm) (f .vm)) _ .0 (h4 .1) in
     record {
-      vm = ltb-true (f .vm) 2 (h1 .0);
-      vs2 = ltb-true (f .vs2) 32 (h2 .0);
-      vs1 = ltb-true (f .vs1) 32 (h3 .0);
-      vd = ltb-true (f .vd) 32 (h4 .0);
+      fields = record {
+        vm = ltb-true (f .vm) 2 (h1 .0);
+        vs2 = ltb-true (f .vs2) 32 (h2 .0);
+        vs1 = ltb-true (f .vs1) 32 (h3 .0);
+        vd = ltb-true (f .vd) 32 (h4 .0);
+      };
       vm-allowed = h5 .0;
       vs1-allowed = h5 .1;
     }
@@ -56,7 +62,7 @@ row-narrow VgmulVs = omega arith
 
 pub narrow : (k : Kind) (f : Fields) → admits (row k) f ≡ true → Narrow (row k) f
 narrow k f h =
-    let a = admitted (row k) f h in
+    let a = admitted (row k) f h .fields in
     let n = row-narrow k in
     record { funct6 = n .0; vm = a .vm; vs2 = a .vs2; vs1 = a .vs1; funct3 = n .1; vd = a .vd; opcode = n .2 }
 
@@ -149,6 +155,14 @@ among-row (a ∷ ks) w {k} {f} e = go (isRow (row a) w) refl (among-row ks w) e
     go true t rest e = let same : a ≡ k = cc in (ap (λ (j : Kind). isRow (row j) w) (sym same) ∙ t, cc)
     go false t rest e = rest e
 
+-- a word's own fields fit
+pub fields-fit : (w : ℕ) → FieldsFit (fieldsOf w)
+fields-fit w = record { vm = omega arith; vs2 = omega arith; vs1 = omega arith; vd = omega arith }
+
+pub decoded-fit : (w : ℕ) {k : Kind} {f : Fields} → decode w ≡ Known k f → FieldsFit f
+unfolding decode
+decoded-fit w e = subst FieldsFit (among-row kinds w e .1) (fields-fit w)
+
 -- a number is made up of its bits: each part from place `low` on, and what is above it
 parts : (w funct6 vm vs2 vs1 funct3 vd opcode : ℕ)
     → w ≡ w / 2 ^ 7 * 2 ^ 7 + opcode → w / 2 ^ 7 ≡ w / 2 ^ 12 * 2 ^ 5 + vd → w / 2 ^ 12 ≡ w / 2 ^ 15 * 2 ^ 3 + funct3
@@ -180,11 +194,12 @@ has-row k w small h =
     let whole : w ≡ wordOf (row k) (fieldsOf w) =
     made-of-parts w small
     ∙ λ i. funct6 i * 2 ^ 26 + vmOf w * 2 ^ 25 + vs2Of w * 2 ^ 20 + vs1Of w * 2 ^ 15 + funct3 i * 2 ^ 12 + vdOf w * 2 ^ 7 + opcode i in
+    let fit = fields-fit w in
     sym (written k (fieldsOf w)
-    (sym (and-next _ _ (lt-ltb (vmOf w) 2 (omega arith))
-    (and-next _ _ (lt-ltb (vs2Of w) 32 (omega arith))
-    (and-next _ _ (lt-ltb (vs1Of w) 32 (omega arith))
-    (and-next _ _ (lt-ltb (vdOf w) 32 (omega arith))
+    (sym (and-next _ _ (lt-ltb (vmOf w) 2 (fit .vm))
+    (and-next _ _ (lt-ltb (vs2Of w) 32 (fit .vs2))
+    (and-next _ _ (lt-ltb (vs1Of w) 32 (fit .vs1))
+    (and-next _ _ (lt-ltb (vdOf w) 32 (fit .vd))
     (and-next _ _ (h2 .0) (sym (h3 .0))))))))
     whole)
 

@@ -3,7 +3,8 @@
 use Prim.Native.Nat.{_%_}
 use borrow.Author.Needs.{needs}
 use Rattle.gf128.specs.Field.{reduction}
-use Rattle.ghash_block.proofs.Halves.{moved-lt, halves-shifted}
+use Rattle.gf128.proofs.Halves.{moved-lt}
+use Rattle.ghash_block.proofs.Halves.{halves-shifted}
 use Rattle.ghash_fast.proofs.times_x4.Statement.{statement}
 use Rattle.ghash_fast.proofs.times_x4.Tie as tie
 

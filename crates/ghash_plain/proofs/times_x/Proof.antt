@@ -1,7 +1,8 @@
 -- `times_x` meets its contract: times x goes by the halves. Assumes nothing.
 use borrow.Author.Needs.{needs}
 use native.Mathlib.Omega.{arith}
-use Rattle.ghash_block.proofs.Halves.{moved-lt, halves-timesX}
+use Rattle.gf128.proofs.Halves.{moved-lt}
+use Rattle.ghash_block.proofs.Halves.{halves-timesX}
 use Rattle.ghash_plain.proofs.times_x.Statement.{statement}
 use Rattle.ghash_plain.proofs.times_x.Tie as tie
 

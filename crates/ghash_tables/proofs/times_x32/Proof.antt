@@ -2,7 +2,8 @@
 -- Assumes nothing.
 use borrow.Author.Needs.{needs}
 use Rattle.gf128.specs.Field.{reduction}
-use Rattle.ghash_block.proofs.Halves.{moved-lt, halves-shifted}
+use Rattle.gf128.proofs.Halves.{moved-lt}
+use Rattle.ghash_block.proofs.Halves.{halves-shifted}
 use Rattle.ghash_tables.proofs.times_x32.Statement.{statement}
 use Rattle.ghash_tables.proofs.times_x32.Tie as tie
 

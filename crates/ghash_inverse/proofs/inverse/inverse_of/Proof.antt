@@ -10,7 +10,7 @@ use Rattle.gf128.proofs.Division.{degree-refused, degree-given, degree-one}
 use Rattle.gf128.proofs.Field.{product-one-left}
 use Rattle.ghash_inverse.specs.Inverse.{RowsOf}
 use Rattle.ghash_inverse.proofs.Euclid.{degrees-lt, ended}
-use Rattle.ghash_block.proofs.Halves.{halves-lt}
+use Rattle.gf128.proofs.Halves.{halves-lt}
 use Rattle.ghash_inverse.proofs.inverse.inverse_of.Statement.{statement}
 use Rattle.ghash_inverse.proofs.inverse.inverse_of.Tie as tie
 

@@ -8,7 +8,7 @@ use Rattle.gf128.specs.Degree.{degreeOf}
 use Rattle.gf128.specs.Field.{timesX}
 use Rattle.gf128.proofs.Division.{degree-le}
 use Rattle.ghash_inverse.proofs.Euclid.{started}
-use Rattle.ghash_block.proofs.Halves.{halves-lt}
+use Rattle.gf128.proofs.Halves.{halves-lt}
 use Rattle.ghash_inverse.proofs.inverse.start.Statement.{statement}
 use Rattle.ghash_inverse.proofs.inverse.start.Tie as tie
 

@@ -10,7 +10,7 @@ use Rattle.gf128.specs.Field.{product}
 use Rattle.gf128.specs.StepBack.{StepsBack}
 use Rattle.gf128.proofs.StepBack.{steps-back, steps-none, steps-many}
 use Rattle.ghash_inverse.specs.Inverse.{Inverts}
-use Rattle.ghash_block.proofs.Halves.{halves-lt}
+use Rattle.gf128.proofs.Halves.{halves-lt}
 use Rattle.ghash_inverse.proofs.step_back.step_back.Statement.{statement}
 use Rattle.ghash_inverse.proofs.step_back.step_back.Tie as tie
 

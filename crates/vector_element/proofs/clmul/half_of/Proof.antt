@@ -7,7 +7,8 @@ use lib.Pow.{high, shr-mod}
 use borrow.Author.Needs.{needs}
 use Rattle.vector_element.specs.declared.clmul.Half.{Half}
 use Rattle.vector_element.specs.Clmul.{halfOf}
-use Rattle.vector_element.proofs.Carryless.{low-in-low, field-in-low}
+use Rattle.gf128.proofs.Halves.{field-in-low}
+use Rattle.vector_element.proofs.Carryless.{low-in-low}
 use Rattle.vector_element.proofs.Sew.{sew-facts}
 use Rattle.vector_element.proofs.clmul.half_of.Statement.{statement}
 use Rattle.vector_element.proofs.clmul.half_of.Tie as tie

@@ -1,6 +1,6 @@
 -- `Block::xor` meets its contract: xor goes by the halves. Assumes nothing.
 use native.Mathlib.Omega.{arith}
-use Rattle.ghash_block.proofs.Halves.{halves-xor}
+use Rattle.gf128.proofs.Halves.{halves-xor}
 use Rattle.ghash_block.proofs.block.Block.xor.Statement.{statement}
 use Rattle.ghash_block.proofs.block.Block.xor.Tie as tie
 
