@@ -11,21 +11,39 @@
 /* The exit statuses of every subcommand. Where several apply the largest is given. */
 enum status {
     STATUS_DONE = 0,  /* all was done */
-    STATUS_WRONG = 1, /* something in the input is wrong, and was told; the rest was done */
-    STATUS_FAILED = 2 /* bad usage, a file that cannot be read, or an output that cannot be written */
+    STATUS_WRONG = 1, /* something in the input is wrong or differs, and was told */
+    STATUS_FAILED = 2 /* bad usage, a file that cannot be read or is refused, or an output that cannot be written */
 };
 
-/* run gets the words of the command line that are no options; main.c takes --help and --version. */
+/* An option of a subcommand. main.c itself takes --help and --version. */
+struct option {
+    const char *name;  /* with its dashes */
+    const char *value; /* what the usage line calls the word after it, or NULL where it takes none */
+};
+#define MOST_OPTIONS 4 /* of a subcommand */
+
+/* The command line after the subcommand's name. */
+struct arguments {
+    int count; /* of the operands: the words that are no option and no option's value */
+    char **operands;
+    const char *given[MOST_OPTIONS]; /* in the order of the table: an option's value, or its name; NULL if it is not there */
+};
+
 struct subcommand {
     const char *name;
-    const char *operands; /* as the usage line shows them */
-    const char *summary;  /* one line, for the list of subcommands */
-    const char *help;     /* what --help says after the usage line */
-    enum status (*run)(int count, char **operands);
+    const struct option *options; /* ended by one without a name; NULL if it has none */
+    const char *operands;         /* as the usage line shows them */
+    const char *summary;          /* one line, for the list of subcommands */
+    const char *help;             /* what --help says after the usage line */
+    enum status (*run)(const struct arguments *arguments);
 };
 
 extern const struct subcommand list_command;
+extern const struct subcommand replay_command;
 extern const struct subcommand words_command;
+
+/* Tells what is wrong with the command line, with the word meant if there is one, and how the subcommand is used. */
+enum status bad_usage(const struct subcommand *command, const char *what, const char *word);
 
 /* Where a line of input stands. */
 struct place {

@@ -2,6 +2,7 @@
 #include <stdio.h>
 #include <string.h>
 
+#include "files.h"
 #include "lines.h"
 
 #define MOST_BYTES 4095 /* of a line; LINES_HELP says so too */
@@ -66,21 +67,16 @@ static enum status turn_line(turn_item *turn, const struct line *line)
 /* An output that cannot be written ends the reading, which could be endless; end_output tells it. */
 static enum status turn_file(turn_item *turn, const char *name)
 {
-    struct line line = {.at = {name, 0}};
+    struct line line = {.at = {shown_name(name), 0}};
     enum status status = STATUS_DONE;
-    FILE *f;
-    if (strcmp(name, "-") == 0) {
-        f = stdin;
-        line.at.file = "<stdin>";
-    } else if ((f = fopen(name, "r")) == NULL) {
+    FILE *f = open_input(name);
+    if (f == NULL)
         return cannot(name);
-    }
     while (!ferror(stdout) && read_line(f, &line))
         status = worse(status, turn_line(turn, &line));
     if (ferror(f))
         status = cannot(line.at.file);
-    if (f != stdin)
-        fclose(f);
+    close_input(f);
     return status;
 }
 

@@ -37,13 +37,13 @@ static const char *text_of(const uint8_t *hex, size_t length, struct turned *to)
     return NULL;
 }
 
-static enum status list(int count, char **files)
+static enum status list(const struct arguments *arguments)
 {
-    return turn_lines(text_of, count, files);
+    return turn_lines(text_of, arguments->count, arguments->operands);
 }
 
 const struct subcommand list_command = {
-    "list", "[FILE...]", "words in hex, one a line, into their texts",
+    "list", NULL, "[FILE...]", "words in hex, one a line, into their texts",
     "Turns words in hex, one a line, into their texts: 0xB2862277 into vghsh.vv v4, v8, v12.\n"
     "A word has 1 to 8 hex digits, in either case, with 0x in front or without.\n" LINES_HELP,
     list,

@@ -13,13 +13,13 @@ static const char *word_of(const uint8_t *text, size_t length, struct turned *to
     return NULL;
 }
 
-static enum status words(int count, char **files)
+static enum status words(const struct arguments *arguments)
 {
-    return turn_lines(word_of, count, files);
+    return turn_lines(word_of, arguments->count, arguments->operands);
 }
 
 const struct subcommand words_command = {
-    "words", "[FILE...]", "texts, one a line, into their words in hex",
+    "words", NULL, "[FILE...]", "texts, one a line, into their words in hex",
     "Turns texts, one a line, into their words in hex: vghsh.vv v4, v8, v12 into 0xB2862277.\n"
     "A text is exactly as rvghash list writes it: one space after the name, and after each comma.\n" LINES_HELP,
     words,

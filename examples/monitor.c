@@ -2,15 +2,22 @@
  * An example monitor: takes trapped words with their settings from a text file, executes each on a register file
  * with rvghash_execute, and prints what it did. Read it to learn how to call the library.
  *
- *     monitor FILE
+ *     monitor [--record TRACE [--registers REGISTERS]] FILE
  *
  * A line of the file is one of these; # begins a comment.
  *     vlen N                                  clears the register file for this VLEN
  *     reg R HEX                               bytes for register R, from its first byte on
  *     trap WORD SEW LMUL VL VSTART SCALAR     a trapped word (WORD and SCALAR in hex, 0x or not)
  *
- * Exit status: 0 if every line was taken, and a refused word is an answer like any other; 1 if a line is wrong, which is
- * told with its number and ends the run; 2 if the file cannot be read or the answers cannot be written.
+ * --record writes a record of each call to TRACE, for rvghash_replay. --registers writes the register file that a
+ * replay starts from to REGISTERS, byte for byte: as it was before the first record, or at the end where there is none.
+ * Two things have no place in a trace. Each is told with its line, every time, and the run goes on:
+ *     a trap whose SEW or LMUL is over 255    it is always refused, so a replay lacks nothing
+ *     a vlen or reg after the first record    a replay goes on with the registers as they were
+ *
+ * Exit status: 0 if every line was taken, and a refused word is an answer like any other; 1 if a line is wrong, which
+ * is told with its number and ends the run, and TRACE holds the records so far; 2 if the usage is wrong, the file
+ * cannot be read, or the answers, TRACE or REGISTERS cannot be written.
  */
 #include <ctype.h>
 #include <errno.h>
@@ -26,9 +33,22 @@
 #define MAX_LINE 511
 #define MAX_WORDS 7
 
+/* Where the records go. A file that was not asked for is NULL. */
+struct recording {
+    FILE *trace, *registers;
+    int begun; /* the first record is reached, or the end */
+};
+
 struct machine {
     uint32_t vlen;
     uint8_t file[MAX_FILE];
+    struct recording recording;
+};
+
+/* A trapped word and what rvghash_execute takes with it; vstart as it was before the call. */
+struct call {
+    uint32_t word, sew, lmul, vl, vstart;
+    uint64_t scalar;
 };
 
 /* The trapped word and its text, for the listing alone: rvghash_execute decodes the word itself. A text has no zero
@@ -68,15 +88,73 @@ static void print_register(const struct machine *m, unsigned r)
     printf("\n");
 }
 
-/* Executes a trapped word, and lists the registers that changed. */
-static void trap(struct machine *m, uint32_t word, uint32_t sew, uint32_t lmul, uint32_t vl, uint32_t vstart,
-                 uint64_t scalar)
+/* Where the line that is being read stands. */
+struct place {
+    const char *file;
+    unsigned long line;
+};
+
+static void tell(const struct place *at, const char *text, const char *what)
+{
+    fprintf(stderr, "%s:%lu: %s: %s\n", at->file, at->line, text, what);
+}
+
+/* Tells what is wrong with a line, and gives 0 for "not taken". */
+static int wrong(const struct place *at, const char *text, const char *what)
+{
+    tell(at, text, what);
+    return 0;
+}
+
+/* Tells by errno why a file cannot be opened or read, and gives the status. */
+static int cannot(const char *name)
+{
+    fprintf(stderr, "%s: %s\n", name, strerror(errno));
+    return 2;
+}
+
+/* Writes the registers that a replay starts from, once. */
+static void begin_recording(struct recording *r, const uint8_t *file, size_t length)
+{
+    if (!r->begun && r->registers != NULL)
+        fwrite(file, 1, length, r->registers);
+    r->begun = 1;
+}
+
+/* Records a call and its answer. `before` is the register file as the call found it. */
+static void record(struct machine *m, const struct place *at, const struct call *c, uint32_t answer,
+                   const uint8_t *before)
+{
+    uint8_t bytes[RVGHASH_RECORD_BYTES];
+    if (m->recording.trace == NULL)
+        return;
+    uint32_t number =
+        rvghash_put_record(c->word, c->sew, c->lmul, answer, c->vl, c->vstart, c->scalar, bytes, sizeof bytes);
+    if (number != RVGHASH_DONE) {
+        tell(at, "trap", "not recorded, SEW or LMUL is over 255");
+        return;
+    }
+    begin_recording(&m->recording, before, RVGHASH_FILE_BYTES(m->vlen));
+    fwrite(bytes, 1, sizeof bytes, m->recording.trace);
+}
+
+/* Tells that a line which is no trap has changed the registers after the first record. */
+static void tell_change(const struct machine *m, const struct place *at, const char *text)
+{
+    if (m->recording.begun)
+        tell(at, text, "not recorded, a replay goes on with the registers as they were");
+}
+
+/* Executes a trapped word, records it, and lists the registers that changed. */
+static void trap(struct machine *m, const struct place *at, const struct call *c)
 {
     uint8_t before[MAX_FILE];
     size_t bytes = m->vlen / 8, length = RVGHASH_FILE_BYTES(m->vlen);
+    uint32_t vstart = c->vstart;
     memcpy(before, m->file, length);
-    uint32_t number = rvghash_execute(word, m->vlen, sew, lmul, vl, &vstart, scalar, m->file, length);
-    print_word(word);
+    uint32_t number = rvghash_execute(c->word, m->vlen, c->sew, c->lmul, c->vl, &vstart, c->scalar, m->file, length);
+    record(m, at, c, number, before);
+    print_word(c->word);
     printf("  answer %" PRIu32 ": %s; vstart %s %" PRIu32 "\n", number, meaning_of(number),
            number == RVGHASH_DONE ? "is now" : "stays", vstart);
     unsigned changed = 0;
@@ -87,19 +165,6 @@ static void trap(struct machine *m, uint32_t word, uint32_t sew, uint32_t lmul, 
         }
     if (changed == 0)
         printf("    no register changed\n");
-}
-
-/* Where the line that is being read stands. */
-struct place {
-    const char *file;
-    unsigned long line;
-};
-
-/* Tells what is wrong with a line, and gives 0 for "not taken". */
-static int wrong(const struct place *at, const char *text, const char *what)
-{
-    fprintf(stderr, "%s:%lu: %s: %s\n", at->file, at->line, text, what);
-    return 0;
 }
 
 static int digit(int c)
@@ -147,6 +212,7 @@ static int take_vlen(struct machine *m, const struct place *at, char **words)
         return 0;
     m->vlen = vlen;
     memset(m->file, 0, sizeof m->file);
+    tell_change(m, at, words[0]);
     return 1;
 }
 
@@ -166,18 +232,18 @@ static int take_reg(struct machine *m, const struct place *at, char **words)
             return wrong(at, hex, "not all digits are hex");
     for (size_t i = 0; i < digits / 2; i++)
         m->file[r * bytes + i] = (uint8_t)(digit((unsigned char)hex[2 * i]) * 16 + digit((unsigned char)hex[2 * i + 1]));
+    tell_change(m, at, words[0]);
     return 1;
 }
 
 static int take_trap(struct machine *m, const struct place *at, char **words)
 {
-    uint32_t word, sew, lmul, vl, vstart;
-    uint64_t scalar;
-    if (!small(at, words[1], 16, UINT32_MAX, &word) || !small(at, words[2], 10, UINT32_MAX, &sew) ||
-        !small(at, words[3], 10, UINT32_MAX, &lmul) || !small(at, words[4], 10, UINT32_MAX, &vl) ||
-        !small(at, words[5], 10, UINT32_MAX, &vstart) || !number(at, words[6], 16, UINT64_MAX, &scalar))
+    struct call c;
+    if (!small(at, words[1], 16, UINT32_MAX, &c.word) || !small(at, words[2], 10, UINT32_MAX, &c.sew) ||
+        !small(at, words[3], 10, UINT32_MAX, &c.lmul) || !small(at, words[4], 10, UINT32_MAX, &c.vl) ||
+        !small(at, words[5], 10, UINT32_MAX, &c.vstart) || !number(at, words[6], 16, UINT64_MAX, &c.scalar))
         return 0;
-    trap(m, word, sew, lmul, vl, vstart, scalar);
+    trap(m, at, &c);
     return 1;
 }
 
@@ -235,30 +301,79 @@ static int take_file(struct machine *m, FILE *f, const char *name)
         wrong(&at, "the line", "longer than 511 bytes, or has a zero byte");
         return 1;
     }
-    if (ferror(f)) {
-        fprintf(stderr, "%s: %s\n", name, strerror(errno));
-        return 2;
+    return ferror(f) ? cannot(name) : 0;
+}
+
+/* Opens an output where its name was given: 0, or 2 if it cannot be. */
+static int open_output(FILE **f, const char *name)
+{
+    return name == NULL || (*f = fopen(name, "wb")) != NULL ? 0 : cannot(name);
+}
+
+/* Closes an output: the status if all of it was written, else 2. The errno of an earlier write that failed is gone. */
+static int end_output(FILE *f, const char *name, int status)
+{
+    if (f == NULL)
+        return status;
+    int failed = ferror(f);
+    if (fclose(f) == 0 && !failed)
+        return status;
+    fprintf(stderr, "%s: %s\n", name, failed ? "not all of it could be written" : strerror(errno));
+    return 2;
+}
+
+/* The names on the command line; NULL for an option that is not there. */
+struct names {
+    const char *trace, *registers, *file;
+};
+
+/* Takes the command line. No name begins with -, so that an option whose name is missing is seen. */
+static int take_names(int argc, char **argv, struct names *n)
+{
+    int i = 1;
+    for (; i + 1 < argc && argv[i + 1][0] != '-'; i += 2) {
+        const char **to = NULL;
+        if (strcmp(argv[i], "--record") == 0)
+            to = &n->trace;
+        if (strcmp(argv[i], "--registers") == 0)
+            to = &n->registers;
+        if (to == NULL || *to != NULL)
+            return 0;
+        *to = argv[i + 1];
     }
-    return 0;
+    if (i + 1 != argc || argv[i][0] == '-')
+        return 0;
+    n->file = argv[i];
+    return n->registers == NULL || n->trace != NULL;
+}
+
+/* Takes the file, and writes what was asked for. */
+static int run(FILE *f, const struct names *n)
+{
+    static struct machine m = {128, {0}, {NULL, NULL, 0}};
+    struct recording *r = &m.recording;
+    int status = open_output(&r->trace, n->trace);
+    if (status == 0)
+        status = open_output(&r->registers, n->registers);
+    if (status == 0)
+        status = take_file(&m, f, n->file);
+    begin_recording(r, m.file, RVGHASH_FILE_BYTES(m.vlen));
+    status = end_output(r->trace, n->trace, status);
+    status = end_output(r->registers, n->registers, status);
+    return end_output(stdout, "monitor: standard output", status);
 }
 
 int main(int argc, char **argv)
 {
-    static struct machine m = {128, {0}};
-    if (argc != 2) {
-        fprintf(stderr, "usage: monitor FILE\n");
+    struct names names = {NULL, NULL, NULL};
+    if (!take_names(argc, argv, &names)) {
+        fprintf(stderr, "usage: monitor [--record TRACE [--registers REGISTERS]] FILE\n");
         return 2;
     }
-    FILE *f = fopen(argv[1], "r");
-    if (f == NULL) {
-        fprintf(stderr, "%s: %s\n", argv[1], strerror(errno));
-        return 2;
-    }
-    int status = take_file(&m, f, argv[1]);
+    FILE *f = fopen(names.file, "r"); /* first, so that no output is written over for nothing */
+    if (f == NULL)
+        return cannot(names.file);
+    int status = run(f, &names);
     fclose(f);
-    if (fflush(stdout) != 0) {
-        perror("monitor: standard output");
-        return 2;
-    }
     return status;
 }

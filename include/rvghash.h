@@ -6,8 +6,8 @@
  * - Overlap. What a call may write overlaps nothing else that is lent to it. What it only reads may overlap.
  * - Pointers. A length that goes with a pointer is a number of bytes. Where it is 0 the pointer may be anything, NULL
  *   too; else it points to that many bytes, at any alignment. A pointer without a length (vstart, start, length, kind,
- *   vm, vs2, vs1, vd, word, degree, state) is not NULL and has the alignment of its type: 4 bytes for a uint32_t, 8 for
- *   a size_t and for a running hash.
+ *   vm, vs2, vs1, vd, word, index, degree, state) is not NULL and has the alignment of its type: 4 bytes for a
+ *   uint32_t, 8 for a size_t and for a running hash.
  * - Threads. No function allocates, blocks, keeps a pointer after it returns, or has state of its own. Each may run in
  *   any thread, on any core and in a handler, and at the same time as any other call, as long as no call writes
  *   memory that another one reads or writes.
@@ -22,9 +22,9 @@
 
 /* The version, as the file VERSION has it. */
 #define RVGHASH_VERSION_MAJOR 0
-#define RVGHASH_VERSION_MINOR 2
-#define RVGHASH_VERSION_PATCH 1
-#define RVGHASH_VERSION_STRING "0.2.1"
+#define RVGHASH_VERSION_MINOR 3
+#define RVGHASH_VERSION_PATCH 0
+#define RVGHASH_VERSION_STRING "0.3.0"
 
 #define RVGHASH_BLOCK_BYTES 16                             /* of a key, a block, a hash */
 #define RVGHASH_LIMIT_BYTES 1048576                        /* the most that A may have, and C */
@@ -60,6 +60,8 @@ enum rvghash_number {
     RVGHASH_TOO_LONG = 11,         /* A or C would pass 1,048,576 bytes */
     RVGHASH_NONE = 12,             /* step back: no earlier hash; degree: zero block */
     RVGHASH_MANY = 13,             /* step back: more than one earlier hash */
+    RVGHASH_BAD_TRACE = 14,        /* replay: the trace's length no multiple of 24, or a zero byte that is not zero;
+                                      record: its length not 24, or SEW, LMUL or the answer over 255 */
     RVGHASH_SHORT_TEXT = 22        /* listing: a text's buffer under 32 bytes */
 };
 
@@ -139,6 +141,37 @@ uint32_t rvghash_disassemble(uint32_t word, uint8_t *text, size_t text_len, size
  */
 RVGHASH_MUST_USE
 uint32_t rvghash_assemble(const uint8_t *text, size_t text_len, uint32_t *word);
+
+/*
+ * A trace is records of 24 bytes, one for each call of rvghash_execute, and nothing else: word (4 bytes), SEW, LMUL,
+ * answer, a zero byte, vl (4), vstart before the call (4), scalar (8), numbers low byte first.
+ */
+enum { RVGHASH_RECORD_BYTES = 24 };
+
+/*
+ * Writes a call and its answer as a record.
+ * Lent: record, 24 bytes.
+ * Done (0): record holds the record. Refused (14; record_len is not 24, or SEW, LMUL or answer is over 255): record is
+ * as before.
+ */
+RVGHASH_MUST_USE
+uint32_t rvghash_put_record(uint32_t word, uint32_t sew, uint32_t lmul, uint32_t answer, uint32_t vl, uint32_t vstart,
+                            uint64_t scalar, uint8_t *record, size_t record_len);
+
+#define RVGHASH_DIFFERS 256u /* replay: an answer byte differs from ours; no answer byte can be this number */
+
+/*
+ * Replays a trace: one call of rvghash_execute for each record, in order, with the record's own vstart.
+ * Lent: file, file_len bytes; trace, of any length, only read; index, one number.
+ * Done (0): every record's answer is ours, the file is as after these calls, and *index is the number of records.
+ * Differs (256): *index is the first record, from 0, whose answer differs from ours, and the file is as before it.
+ * Refused (14; the trace's length is no multiple of 24, or a zero byte in it is not zero): nothing ran, the file is as
+ * before, and *index is 0.
+ * A VLEN or a file length that is not allowed is no refusal here: each call then answers 1, and a record may say so.
+ */
+RVGHASH_MUST_USE
+uint32_t rvghash_replay(uint32_t vlen, uint8_t *file, size_t file_len, const uint8_t *trace, size_t trace_len,
+                        size_t *index);
 
 /*
  * The product of a block and a key in the GHASH field, bit by bit (plain) or four coefficients at a time (fast).

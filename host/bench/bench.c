@@ -2,9 +2,9 @@
  * The benchmark: checks that all peers, and an earlier build where one is linked, give the same results, times
  * everything in interleaved rounds, and prints the tables as Markdown.
  *
- *     bench [-r ROUNDS] [-b BATCH_MS] [-o SWEEP]
+ *     bench [-r ROUNDS] [-b BATCH_MS] [-n RECORDS] [-o SWEEP]
  *
- * SWEEP gets the throughput by message length, which plot.py draws.
+ * RECORDS is how many a trace has. SWEEP gets the throughput by message length, which plot.py draws.
  */
 #define _POSIX_C_SOURCE 200809L
 #include <stdlib.h>
@@ -13,6 +13,7 @@
 
 #include "plan.h"
 #include "remote.h"
+#include "replay.h"
 
 enum { SEED = 1 };
 
@@ -37,6 +38,15 @@ static void fail(const char *what, const char *name)
     exit(1);
 }
 
+static int wrong;
+
+/* Everything that differs is told before the program stops. */
+static void differs(const char *what, const char *name)
+{
+    fprintf(stderr, "bench: %s: %s\n", name, what);
+    wrong = 1;
+}
+
 /* The hash of a peer, a GMAC's tag without its mask. */
 static void hash_of(const struct peer *peer, int key, int length, uint8_t out[16])
 {
@@ -49,7 +59,7 @@ static void hash_of(const struct peer *peer, int key, int length, uint8_t out[16
         out[i] ^= k->mask[i];
 }
 
-static void check_peer(const struct peer *peer)
+static int peer_agrees(const struct peer *peer)
 {
     for (int length = 0; length < LENGTHS; length++) {
         int keys = plan.inputs.messages[length].length <= 4096 ? KEYS : 3;
@@ -58,30 +68,43 @@ static void check_peer(const struct peer *peer)
             hash_of(&peers[FAST], key, length, ours);
             hash_of(peer, key, length, theirs);
             if (memcmp(ours, theirs, 16) != 0)
-                fail("its hash differs from the fast path's", peer->name);
+                return 0;
         }
     }
+    return 1;
 }
 
 static void check_word(int word, int number)
 {
     const struct word_case *c = &plan.word_cases[word][number];
     if (!word_agrees(c))
-        fail("differs from document 01's rules in plain C", word_name(word));
+        differs("differs from document 01's rules in plain C", word_name(word));
     if (earlier_has(word, number) && !earlier_agrees(c))
-        fail("the earlier build's differs from document 01's rules in plain C", word_name(word));
+        differs("the earlier build's differs from document 01's rules in plain C", word_name(word));
+}
+
+static void check_trace(int trace)
+{
+    if (!replay_agrees(&plan.traces[trace]))
+        differs("rvghash_replay differs from the calls that made the trace", trace_name(trace));
+    if (!loop_agrees(&plan.traces[trace]))
+        differs("the loop in C differs from the calls that made the trace", trace_name(trace));
 }
 
 static void check_all(void)
 {
     for (int p = 0; p < PEERS; p++)
-        if (!peers[p].missing)
-            check_peer(&peers[p]);
+        if (!peers[p].missing && !peer_agrees(&peers[p]))
+            differs("its hash differs from the fast path's", peers[p].name);
     for (int w = 0; w < WORDS; w++)
         for (int i = 0; i < word_count(w); i++)
             check_word(w, i);
     if (!products_agree(&plan.triples))
-        fail("differ from document 01's rules in plain C", "the products or the step back");
+        differs("differ from document 01's rules in plain C", "the products or the step back");
+    for (int t = 0; t < TRACES; t++)
+        check_trace(t);
+    if (wrong)
+        exit(1);
     fprintf(stderr, "bench: all results agree\n");
 }
 
@@ -107,9 +130,11 @@ static void make_inputs(void)
         for (int i = 0; i < word_count(w); i++)
             word_make(&plan.word_cases[w][i], w, i, &seed);
     triples_make(&plan.triples, &seed);
+    for (int t = 0; t < TRACES; t++)
+        trace_make(&plan.traces[t], t, (size_t)plan.records, &seed);
 }
 
-static struct item *list[PEERS * (LENGTHS + 1) + 2 * WORDS * CASES + 6];
+static struct item *list[PEERS * (LENGTHS + 1) + 2 * WORDS * CASES + 6 + 2 * TRACES];
 static int listed;
 
 static void add(struct item *item, double (*batch)(const void *what, long calls), const void *what)
@@ -152,6 +177,10 @@ static void add_all(void)
     add(&plan.c_product, c_product_batch, &plan.triples);
     add(&plan.step_back, step_back_batch, &plan.triples);
     add(&plan.c_clmul, c_clmul_batch, &plan.triples);
+    for (int t = 0; t < TRACES; t++) {
+        add(&plan.replay[t], replay_batch, &plan.traces[t]);
+        add(&plan.loop[t], loop_batch, &plan.traces[t]);
+    }
 }
 
 static const char *options(int argc, char **argv)
@@ -159,18 +188,21 @@ static const char *options(int argc, char **argv)
     const char *sweep = NULL;
     plan.rounds = 21;
     plan.batch_ns = 3e6;
-    for (int o; (o = getopt(argc, argv, "r:b:o:")) != -1;) {
+    plan.records = 1000000;
+    for (int o; (o = getopt(argc, argv, "r:b:n:o:")) != -1;) {
         if (o == 'r')
             plan.rounds = atoi(optarg);
         else if (o == 'b')
             plan.batch_ns = atof(optarg) * 1e6;
+        else if (o == 'n')
+            plan.records = atol(optarg);
         else if (o == 'o')
             sweep = optarg;
         else
             exit(2);
     }
-    if (plan.rounds < 1 || plan.rounds > MAX_ROUNDS || !(plan.batch_ns > 0))
-        fail("wrong number of rounds, or batch not over 0", "options");
+    if (plan.rounds < 1 || plan.rounds > MAX_ROUNDS || !(plan.batch_ns > 0) || plan.records < 1)
+        fail("wrong number of rounds, or batch or records not over 0", "options");
     return sweep;
 }
 

@@ -10,6 +10,7 @@
 #include "measure.h"
 #include "peers.h"
 #include "products.h"
+#include "traces.h"
 #include "words.h"
 
 /* One peer and one message length; the AES part alone has no length. */
@@ -22,6 +23,7 @@ struct hash_case {
 struct plan {
     int rounds;
     double batch_ns;
+    long records; /* of a trace */
     struct inputs inputs;
     struct hash_case hash_cases[PEERS][LENGTHS];
     struct item hash[PEERS][LENGTHS], aes[PEERS];
@@ -29,6 +31,8 @@ struct plan {
     struct item word[WORDS][CASES], earlier[WORDS][CASES], group_products;
     struct triples triples;
     struct item fast_product, plain_product, c_product, step_back, c_clmul;
+    struct trace traces[TRACES];
+    struct item replay[TRACES], loop[TRACES];
 };
 
 /* The tables, as Markdown. */

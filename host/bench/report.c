@@ -209,6 +209,39 @@ static void report_carryless(const struct plan *plan)
     printf("\n");
 }
 
+/* In millions of records a second. What is timed as one call is the whole trace. */
+static double replay_speed(const struct plan *plan, const struct item *item)
+{
+    const struct trace *t = item->what;
+    return (double)t->records * 1e3 / time_of(plan, item);
+}
+
+static void replay_row(const struct plan *plan, int trace)
+{
+    const struct item *replay = &plan->replay[trace], *loop = &plan->loop[trace];
+    struct ratio r = ratio(plan, replay, loop);
+    printf("| %s | %zu | %zu |", trace_name(trace), plan->traces[trace].records, plan->traces[trace].refused);
+    cell(replay_speed(plan, replay));
+    printf(" %.1f %% |", 100 * item_time(replay, NULL, plan->rounds).spread);
+    cell(replay_speed(plan, loop));
+    printf(" %.2f | %.2f to %.2f |\n", r.median, r.low, r.high);
+}
+
+static void report_replay(const struct plan *plan)
+{
+    printf("\n## Replay\n\n"
+           "One call of `rvghash_replay` over a whole trace, beside a loop in C over `rvghash_execute`. The loop reads a "
+           "record's\nfields, executes its word on the file and compares the answer; it does not look at the zero bytes "
+           "first, and a record\nthat differs has been executed when it is found. The traces are calls of "
+           "`rvghash_execute` before the first round, and\nboth replays must end with the file that these left. A batch "
+           "is at least one whole trace.\n\n"
+           "| trace | records | refused | million records/s | spread | loop: million records/s | time over the loop's "
+           "| quartiles |\n"
+           "|---|--:|--:|--:|--:|--:|--:|---|\n");
+    for (int t = 0; t < TRACES; t++)
+        replay_row(plan, t);
+}
+
 static void earlier_row(const struct plan *plan, int word, int number)
 {
     const struct item *now = &plan->word[word][number], *earlier = &plan->earlier[word][number];
@@ -278,6 +311,7 @@ void report(const struct plan *plan)
     report_words(plan, "group", 32, VGHSH_VV, VGMUL_VS);
     report_products(plan);
     report_carryless(plan);
+    report_replay(plan);
     report_earlier(plan);
     report_notes(plan);
 }

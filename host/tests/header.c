@@ -197,6 +197,80 @@ static void texts(void)
     expect(rvghash_assemble(NULL, 0, &word) == RVGHASH_NOT_A_WORD && word == 0, "no text");
 }
 
+/* Records a call: each byte of its word, vl, vstart and scalar is another one. */
+static uint32_t put(uint32_t sew, uint32_t lmul, uint32_t answer, uint8_t *record, size_t record_len)
+{
+    return rvghash_put_record(0x3221E0D7, sew, lmul, answer, 0x44332211, 0x88776655, 0xF0E1D2C3B4A59687, record, record_len);
+}
+
+/* The record's bytes, then what has no record, which leaves the bytes and the one after them. */
+static void record(void)
+{
+    static const uint8_t want[] = {0xD7, 0xE0, 0x21, 0x32, 253, 254, 255, 0, 0x11, 0x22, 0x33, 0x44, 0x55, 0x66, 0x77, 0x88,
+                                   0x87, 0x96, 0xA5, 0xB4, 0xC3, 0xD2, 0xE1, 0xF0, '#'};
+    const size_t length = RVGHASH_RECORD_BYTES;
+    uint8_t bytes[RVGHASH_RECORD_BYTES + 1];
+    memset(bytes, '#', sizeof bytes);
+    expect(length == 24 && sizeof want == length + 1, "a record is 24 bytes");
+    expect(RVGHASH_BAD_TRACE == 14 && RVGHASH_DIFFERS == 256, "the numbers of a trace");
+    expect(put(253, 254, 255, bytes, length) == RVGHASH_DONE, "a record");
+    expect(memcmp(bytes, want, sizeof want) == 0, "the record's bytes");
+    expect(put(256, 2, 3, bytes, length) == RVGHASH_BAD_TRACE, "SEW over 255");
+    expect(put(1, 256, 3, bytes, length) == RVGHASH_BAD_TRACE, "LMUL over 255");
+    expect(put(1, 2, 256, bytes, length) == RVGHASH_BAD_TRACE, "an answer over 255");
+    expect(put(1, 2, 3, bytes, length - 1) == RVGHASH_BAD_TRACE, "a short record");
+    expect(put(1, 2, 3, bytes, length + 1) == RVGHASH_BAD_TRACE, "a long record");
+    expect(put(1, 2, 3, NULL, 0) == RVGHASH_BAD_TRACE, "no record");
+    expect(memcmp(bytes, want, sizeof want) == 0, "a refusal leaves the record");
+}
+
+/* Executes a word on bytes of VLEN 128, and records it. */
+static uint32_t executed(uint32_t word, uint32_t vl, uint32_t vstart, uint64_t scalar, uint8_t *file, uint8_t *record)
+{
+    uint32_t after = vstart;
+    uint32_t answer = rvghash_execute(word, 128, 8, 1, vl, &after, scalar, file, RVGHASH_FILE_BYTES(128));
+    expect(rvghash_put_record(word, 8, 1, answer, vl, vstart, scalar, record, RVGHASH_RECORD_BYTES) == RVGHASH_DONE,
+           "a call's record");
+    return answer;
+}
+
+/* Replays on a copy of the file: the number and the index must be these, and the file then `want`. */
+static void replayed(uint32_t vlen, const uint8_t *file, const uint8_t *trace, size_t trace_len, uint32_t number, size_t at,
+                     const uint8_t *want, const char *what)
+{
+    uint8_t copy[RVGHASH_FILE_BYTES(128)];
+    size_t index = 7;
+    memcpy(copy, file, sizeof copy);
+    expect(rvghash_replay(vlen, copy, sizeof copy, trace, trace_len, &index) == number, what);
+    expect(index == at && memcmp(copy, want, sizeof copy) == 0, what);
+}
+
+/*
+ * vclmul.vx v1, v2, x3, K1, and vclmul.vv v3, v1, v1 from element 1 on, recorded and replayed; then other answers, which
+ * end the replay before their record; then what is no trace.
+ */
+static void replay(void)
+{
+    uint8_t before[RVGHASH_FILE_BYTES(128)] = {0}, between[sizeof before], after[sizeof before];
+    uint8_t trace[2 * RVGHASH_RECORD_BYTES];
+    memset(before + 2 * 16, 3, 2);
+    memcpy(between, before, sizeof before);
+    expect(executed(0x3221E0D7, 2, 0, 3, between, trace) == RVGHASH_DONE && between[16 + 1] == 5, "K1, recorded");
+    memcpy(after, between, sizeof before);
+    expect(executed(0x3210A1D7, 2, 1, 0, after, trace + RVGHASH_RECORD_BYTES) == RVGHASH_DONE, "vclmul.vv, recorded");
+    expect(after[3 * 16] == 0 && after[3 * 16 + 1] == 17, "5 by 5, from vstart on");
+    replayed(128, before, trace, sizeof trace, RVGHASH_DONE, 2, after, "a replay");
+    replayed(128, before, NULL, 0, RVGHASH_DONE, 0, before, "an empty trace");
+    replayed(129, before, trace, sizeof trace, RVGHASH_DIFFERS, 0, before, "a replay at VLEN 129");
+    replayed(128, before, trace, sizeof trace - 1, RVGHASH_BAD_TRACE, 0, before, "a trace with half a record");
+    trace[RVGHASH_RECORD_BYTES + 6] = RVGHASH_BAD_GROUP;
+    replayed(128, before, trace, sizeof trace, RVGHASH_DIFFERS, 1, between, "another answer in record 1");
+    trace[6] = trace[RVGHASH_RECORD_BYTES + 6] = RVGHASH_BAD_VLEN_OR_FILE;
+    replayed(129, before, trace, sizeof trace, RVGHASH_DONE, 2, before, "answers of 1 at VLEN 129");
+    trace[RVGHASH_RECORD_BYTES + 7] = 1;
+    replayed(128, before, trace, sizeof trace, RVGHASH_BAD_TRACE, 0, before, "a zero byte that is not zero, in record 1");
+}
+
 int main(void)
 {
     version();
@@ -207,6 +281,8 @@ int main(void)
     vector();
     words();
     texts();
+    record();
+    replay();
     if (!failed)
         printf("header: the version, the layout, the constants and a call under every name hold\n");
     return failed;

@@ -169,8 +169,9 @@ def table_of_numbers():
 def number_differences(header, numbers):
     table = table_of_numbers()
     yield from differences(f"enum {NUMBERS}", numbers, [(name, value) for name, value, _ in table])
+    text = " ".join(read(header).split())  # a comment may go on in the next line
     for name, value, meaning in table:
-        if not re.search(rf"\b{name} = {value},?\s*/\* {re.escape(meaning)} \*/", read(header)):
+        if not re.search(rf"\b{name} = {value},? /\* {re.escape(meaning)} \*/", text):
             yield f"{name}: the header's comment is not {{}}'s `{meaning}`"
 
 

@@ -74,7 +74,12 @@ static uint32_t answer_of(const struct call *c, void *const b[MAX_LENT])
                               b[0]);
     case DECODE: return rvghash_decode((uint32_t)n[WORD], b[0], b[1], b[2], b[3], b[4]);
     case DISASSEMBLE: return rvghash_disassemble((uint32_t)n[WORD], b[0], l[0], b[1]);
-    default: return rvghash_assemble(b[0], l[0], b[1]);
+    case ASSEMBLE: return rvghash_assemble(b[0], l[0], b[1]);
+    case PUT_RECORD:
+        return rvghash_put_record((uint32_t)n[OF_WORD], (uint32_t)n[OF_SEW], (uint32_t)n[OF_LMUL],
+                                  (uint32_t)n[OF_ANSWER], (uint32_t)n[OF_VL], (uint32_t)n[OF_VSTART], n[OF_SCALAR],
+                                  b[0], l[0]);
+    default: return rvghash_replay((uint32_t)n[0], b[0], l[0], b[1], l[1], b[2]);
     }
 }
 
@@ -143,7 +148,8 @@ int run(int argc, char **argv)
     int enough = told(" executions,", EXECUTE, EXECUTE, 20000) & told(" hashes,", GHASH_FAST, GHASH_PLAIN, 1000) &
                  told(" step backs,", STEP_BACK, STEP_BACK, 1000) &
                  told(" calls on running hashes,", FEED_A, FINISH_PLAIN, 10000) &
-                 told(" calls on words and texts", ENCODE, ASSEMBLE, 20000);
+                 told(" calls on words and texts,", ENCODE, ASSEMBLE, 20000) &
+                 told(" records,", PUT_RECORD, PUT_RECORD, 2000) & told(" replays", REPLAY, REPLAY, 1000);
     put(enough ? ", no difference\n" : ": too few\n");
     return enough ? 0 : 1;
 }

@@ -22,11 +22,15 @@ enum function {
     DECODE,
     DISASSEMBLE,
     ASSEMBLE,
+    PUT_RECORD,
+    REPLAY,
     FUNCTIONS
 };
 
-enum scalar { WORD, VLEN, SEW, LMUL, VL, SCALAR, SCALARS }; /* of EXECUTE; its buffers are vstart and the file */
-enum field { KIND, VM, VS2, VS1, VD };                      /* the scalars of ENCODE; DECODE and DISASSEMBLE have WORD */
+enum scalar { WORD, VLEN, SEW, LMUL, VL, SCALAR }; /* of EXECUTE; its buffers are vstart and the file */
+enum field { KIND, VM, VS2, VS1, VD };             /* the scalars of ENCODE; DECODE and DISASSEMBLE have WORD */
+/* The scalars of PUT_RECORD. REPLAY has VLEN alone; its buffers are the file, the trace and index. */
+enum record { OF_WORD, OF_SEW, OF_LMUL, OF_ANSWER, OF_VL, OF_VSTART, OF_SCALAR, MAX_SCALARS };
 
 /* A buffer that the call is lent: its content, and the part of it that the call must change. */
 struct lent {
@@ -38,7 +42,7 @@ struct lent {
 
 struct call {
     uint32_t function, answer, scalars, buffers;
-    uint64_t scalar[SCALARS];
+    uint64_t scalar[MAX_SCALARS];
     struct lent buffer[MAX_LENT];
 };
 
@@ -60,7 +64,7 @@ static const uint8_t *take_call(const uint8_t *at, struct call *c)
     c->answer = take_u32(&at);
     c->scalars = take_u32(&at);
     c->buffers = take_u32(&at);
-    if (c->function >= FUNCTIONS || c->scalars > SCALARS || c->buffers > MAX_LENT)
+    if (c->function >= FUNCTIONS || c->scalars > MAX_SCALARS || c->buffers > MAX_LENT)
         return NULL;
     for (uint32_t i = 0; i < c->scalars; i++)
         c->scalar[i] = take_number(&at, 8);

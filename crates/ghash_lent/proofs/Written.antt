@@ -1,14 +1,13 @@
 -- What is written to `out`, and what a finishing call gives back, go from the by-value answers to the C functions' promises.
 -- Assumes nothing.
-use mathlib.Core.Path.{_≡_, refl, ap, _∙_}
+use mathlib.Core.Path.{_≡_, refl, sym, ap, _∙_}
 use mathlib.Core.Bool.{Bool, true, false, cond}
-use mathlib.Core.List.{List, _++_, append-nil}
-use Prim.Native.Nat.{ℕ, _+_}
+use mathlib.Core.List.{List}
+use Prim.Native.Nat.{ℕ}
 use native.Mathlib.Omega.{arith}
 use borrow.Author.Tests.{eq-eqb, ne-eqb, le-leb}
 use lib.Dec.{eqb}
-use lib.ListN.{length, drop-of-length-le}
-use lib.Seq.{sets, sets-eq}
+use lib.ListN.{length}
 use Rattle.ghash_block.specs.Answer.{Answers}
 use Rattle.ghash_block.specs.Block.{valueOf}
 use Rattle.ghash_block.specs.declared.answer.Answer.{Answer}
@@ -16,6 +15,7 @@ use Rattle.gf128.specs.Bytes.{blockBytes, putBlock}
 use Rattle.gf128.specs.Entries.{outNumber, outBytes}
 use Rattle.gf128.specs.Running.{State, finishRefusal, afterFinish}
 use Rattle.octets.proofs.BigEndian.{length-beBytes}
+use Rattle.octets.proofs.Stores.{sets-whole}
 use Rattle.ghash_state.specs.State.{view}
 use Rattle.ghash_running.specs.Answers.{Updates, Finishes}
 use Rattle.ghash_state.specs.declared.Running.{Running}
@@ -26,16 +26,9 @@ use Rattle.ghash_lent.specs.Finish.{FinishesInto, stateFor}
 pub out-other : (out : List ℕ) (n v : ℕ) → (length out ≡ 16 → ⊥) → (9 ≡ outNumber out n) × (out ≡ outBytes out v)
 out-other out n v f = rw (ne-eqb (length out) 16 f) (refl, refl)
 
-whole : (out : List ℕ) (v : ℕ) → length out ≡ 16 → sets out 0 (blockBytes v) ≡ blockBytes v
-whole out v e =
-    let l : length (blockBytes v) ≡ 16 = length-beBytes 16 v in
-    sets-eq (blockBytes v) out 0 (omega arith)
-    ∙ ap (λ (r : List ℕ). blockBytes v ++ r) (drop-of-length-le out {i = 0 + length (blockBytes v)} (omega arith))
-    ∙ append-nil (blockBytes v)
-
 -- an `out` of 16 bytes: the number, and the block's bytes
 pub out-put : (out : List ℕ) (n v : ℕ) → length out ≡ 16 → (n ≡ outNumber out n) × (putBlock out 0 v ≡ outBytes out v)
-out-put out n v e = rw (eq-eqb (length out) 16 e, le-leb 16 (length out) (omega arith)) (refl, whole out v e)
+out-put out n v e = rw (eq-eqb (length out) 16 e, le-leb 16 (length out) (omega arith)) (refl, sets-whole out (blockBytes v) (e ∙ sym (length-beBytes 16 v)))
 
 -- an answer's promise, once its block is put to `out`
 pub answered : (out out′ : List ℕ) (n : ℕ) (a : Answer) (number block : ℕ)

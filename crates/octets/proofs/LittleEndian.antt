@@ -1,17 +1,18 @@
--- Numbers and their bytes, the lowest first: a read and a write by one more byte, past the end, their bounds, and a write read again.
--- Main results: `read-lt`, `readLe-same`, `writeLe-other`, `writeLe-read`, `writeLe-bytes`.
+-- Numbers and their bytes, the lowest first: a read and a write by one more byte, past the end, their bounds, a write read again, and the
+-- bytes of a number read, and of a read number.
+-- Main results: `read-lt`, `le-same`, `readLe-same`, `writeLe-other`, `writeLe-read`, `writeLe-bytes`, `read-leBytes`, `leBytes-read`.
 -- Assumes nothing.
 use mathlib.Core.Path.{_≡_, refl, sym, ap, ap₂, subst, _∙_}
-use mathlib.Core.List.{List}
+use mathlib.Core.List.{List, [], _∷_, _++_}
 use Prim.Native.Nat.{ℕ, zero, suc, _+_, _-_, _*_, _/_, _%_, _^_, _<_, _≤_}
 use native.Mathlib.Decide.{decLe, ℕ-discrete}
-use native.Mathlib.Nat.{zero-lt-suc, lt-of-lt-of-le, lt-of-not-le, le-of-eq, mod-lt, pow-suc, mod-one}
+use native.Mathlib.Nat.{zero-lt-suc, lt-of-lt-of-le, lt-of-not-le, le-of-eq, mod-lt, pow-suc, mod-one, add-zero}
 use native.Mathlib.Omega.{arith}
-use lib.Arith.{digits-lt}
-use lib.ListN.{length, getD, set, length-set, List·getD-eq-default}
-use lib.Seq.{set-out, getD-set-same, getD-set-other}
+use lib.Arith.{digits-lt, digits-div, digits-mod}
+use lib.ListN.{length, getD, set, take, drop, length-set, List·getD-eq-default}
+use lib.Seq.{set-out, getD-set-same, getD-set-other, getD-append-add, drop-cons}
 use Rattle.octets.specs.Bytes.{AreBytes}
-use Rattle.octets.specs.LittleEndian.{readLe, writeLe}
+use Rattle.octets.specs.LittleEndian.{readLe, writeLe, leBytes}
 use Rattle.octets.proofs.BigEndian.{last-byte}
 
 -- ---- past the end
@@ -58,11 +59,20 @@ read-lt s at (suc n) b =
 
 -- ---- what is read, and what a write changes
 
-pub readLe-same : (g h : List ℕ) (at n : ℕ) → ((p : ℕ) → (at ≤ p) × (p < at + n) → getD g p 0 ≡ getD h p 0) → readLe g at n ≡ readLe h at n
+-- n bytes that agree are one number
+pub le-same : (n : ℕ) (s t : List ℕ) (a b : ℕ) → ((k : ℕ) → k < n → getD s (a + k) 0 ≡ getD t (b + k) 0) → readLe s a n ≡ readLe t b n
 unfolding readLe
-readLe-same g h at zero e = refl
-readLe-same g h at (suc n) e =
-    ap₂ (λ (x y : ℕ). x * 256 + y) (readLe-same g h (at + 1) n (λ p w. e p (omega arith, omega arith))) (e at (omega arith, omega arith))
+le-same zero s t a b e = refl
+le-same (suc n) s t a b e =
+    ap₂ (λ (x y : ℕ). x * 256 + y)
+    (le-same n s t (a + 1) (b + 1) (λ k h.
+    let p : a + 1 + k ≡ a + (k + 1) = omega arith in
+    let q : b + 1 + k ≡ b + (k + 1) = omega arith in
+    rw (p, q) (e (k + 1) (omega arith))))
+    (sym (ap (λ (p : ℕ). getD s p 0) (add-zero a)) ∙ e 0 (omega arith) ∙ ap (λ (q : ℕ). getD t q 0) (add-zero b))
+
+pub readLe-same : (g h : List ℕ) (at n : ℕ) → ((p : ℕ) → (at ≤ p) × (p < at + n) → getD g p 0 ≡ getD h p 0) → readLe g at n ≡ readLe h at n
+readLe-same g h at n e = le-same n g h at at (λ k l. e (at + k) (omega arith, omega arith))
 
 pub writeLe-length : (n : ℕ) (s : List ℕ) (at v : ℕ) → length (writeLe n s at v) ≡ length s
 unfolding writeLe
@@ -101,3 +111,33 @@ unfolding writeLe
 writeLe-bytes zero g at v h = h
 writeLe-bytes (suc n) g at v h =
     writeLe-bytes n (set g at (v % 256)) (at + 1) (v / 256) (set-bytes g at (v % 256) (mod-lt v (zero-lt-suc 255)) h)
+
+-- ---- the bytes of a number
+
+pub length-leBytes : (n v : ℕ) → length (leBytes n v) ≡ n
+unfolding leBytes
+length-leBytes zero v = refl
+length-leBytes (suc n) v = ap suc (length-leBytes n (v / 256))
+
+-- a read past the first bytes
+pub read-after : (xs ys : List ℕ) (k n : ℕ) → readLe (xs ++ ys) (length xs + k) n ≡ readLe ys k n
+read-after xs ys k n =
+    le-same n (xs ++ ys) ys (length xs + k) k (λ j h. let e : length xs + k + j ≡ length xs + (k + j) = omega arith in rw e (getD-append-add xs ys (k + j) 0))
+
+pub read-leBytes : (n v : ℕ) (later : List ℕ) → readLe (leBytes n v ++ later) 0 n ≡ v % 256 ^ n
+unfolding readLe leBytes
+read-leBytes zero v later = sym (mod-one v)
+read-leBytes (suc n) v later =
+    ap (λ (x : ℕ). x * 256 + v % 256) (read-after (v % 256 ∷ []) (leBytes n (v / 256) ++ later) 0 n ∙ read-leBytes n (v / 256) later)
+    ∙ sym (last-byte n v)
+
+-- the bytes of a number that was read
+pub leBytes-read : (n : ℕ) (s : List ℕ) (at : ℕ) → AreBytes s → at + n ≤ length s → leBytes n (readLe s at n) ≡ take n (drop at s)
+unfolding readLe leBytes
+leBytes-read zero s at b h = refl
+leBytes-read (suc n) s at b h =
+    let later = readLe s (at + 1) n in
+    let next : suc at ≡ at + 1 = omega arith in
+    ap₂ (λ (x : ℕ) (xs : List ℕ). x ∷ xs) (digits-mod later (b at))
+    (ap (leBytes n) (digits-div later (b at)) ∙ leBytes-read n s (at + 1) b (omega arith))
+    ∙ rw (drop-cons s at 0 (omega arith), next) refl

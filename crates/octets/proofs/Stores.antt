@@ -1,12 +1,12 @@
 -- What stands where after a run of stores, past the end of the list too. Main results: `sets-append`, `sets-other`, `sets-at`, `sets-past`,
--- `sets-cut`, `sets-next`. Assumes nothing.
+-- `sets-cut`, `sets-next`, `sets-whole`. Assumes nothing.
 use mathlib.Core.Path.{_≡_, refl, sym, ap, _∙_}
-use mathlib.Core.List.{List, [], _∷_, _++_}
+use mathlib.Core.List.{List, [], _∷_, _++_, append-nil}
 use Prim.Native.Nat.{ℕ, zero, suc, _+_, _-_, _≤_, _<_, min}
 use native.Mathlib.Nat.{add-zero, add-suc, suc-add, le-of-suc-le-suc, not-suc-le-zero}
 use native.Mathlib.Omega.{arith}
-use lib.ListN.{length, length-set, set, take, getD}
-use lib.Seq.{sets, set-out, getD-set-same, getD-set-other}
+use lib.ListN.{length, length-set, set, take, getD, drop-of-length-le}
+use lib.Seq.{sets, sets-eq, set-out, getD-set-same, getD-set-other}
 
 pub sets-append : (l : List ℕ) (i : ℕ) (xs ys : List ℕ) → sets (sets l i xs) (i + length xs) ys ≡ sets l i (xs ++ ys)
 sets-append l i [] ys = ap (λ (p : ℕ). sets l p ys) (add-zero i)
@@ -59,3 +59,10 @@ sets-next l vs s k i h j e =
     ∙ ap (λ (n : ℕ). set (sets l k (take (i - k) vs)) n (getD vs (i - k) 0)) place
     ∙ sets-more l vs k (i - k) j
     ∙ ap (λ (n : ℕ). sets l k (take n vs)) count
+
+-- as many as there are places
+pub sets-whole : (l vs : List ℕ) → length l ≡ length vs → sets l 0 vs ≡ vs
+sets-whole l vs e =
+    sets-eq vs l 0 (omega arith)
+    ∙ ap (λ (r : List ℕ). vs ++ r) (drop-of-length-le l {i = 0 + length vs} (omega arith))
+    ∙ append-nil vs

@@ -3,6 +3,7 @@
 use Prim.Native.Nat.{ℕ}
 use mathlib.Core.List.{List}
 use lib.ListN.{length}
+use Rattle.trace_record.specs.declared.Record.{Record}
 use Rattle.vector_listing.specs.declared.Listed.{Listed}
 use Rattle.vector_listing.specs.Listing.{listed}
 use Rattle.vector_registers.specs.declared.settings.Settings.{Settings}
@@ -13,6 +14,11 @@ use Rattle.vector_word.specs.Word.{decode}
 -- the settings of a call of the executor
 abbrev pub settingsOf : ℕ → ℕ → ℕ → ℕ → ℕ → Settings
 settingsOf vlen sew lmul vl vstart = record { vlen = vlen; sew = sew; lmul = lmul; vl = vl; vstart = vstart }
+
+-- a record of a trace, in the order of the C function's parameters
+abbrev pub recordWith : (word sew lmul answer vl vstart scalar : ℕ) → Record
+recordWith word sew lmul answer vl vstart scalar =
+    record { word = word; sew = sew; lmul = lmul; answer = answer; vl = vl; vstart = vstart; scalar = scalar }
 
 -- the fields of a word, in the order of the C function's parameters
 abbrev pub fieldsWith : (vm vs2 vs1 vd : ℕ) → Fields

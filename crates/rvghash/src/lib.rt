@@ -2,5 +2,6 @@
 pub mod field_calls;
 pub mod hash_calls;
 pub mod running_calls;
+pub mod trace_calls;
 pub mod vector_calls;
 pub mod word_calls;

@@ -36,6 +36,13 @@ extern "C" {
     ) -> u32;
     pub fn rvghash_disassemble(word: u32, text: *mut u8, text_len: usize, length: *mut usize) -> u32;
     pub fn rvghash_assemble(text: *const u8, text_len: usize, word: *mut u32) -> u32;
+    pub fn rvghash_put_record(
+        word: u32, sew: u32, lmul: u32, answer: u32, vl: u32, vstart: u32, scalar: u64,
+        record: *mut u8, record_len: usize,
+    ) -> u32;
+    pub fn rvghash_replay(
+        vlen: u32, file: *mut u8, file_len: usize, trace: *const u8, trace_len: usize, index: *mut usize,
+    ) -> u32;
     fn rvghash_product_plain(
         key: *const u8, key_len: usize, block: *const u8, block_len: usize, out: *mut u8, out_len: usize,
     ) -> u32;

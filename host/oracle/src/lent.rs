@@ -9,6 +9,7 @@ use std::slice;
 extern "C" {
     fn mmap(addr: *mut c_void, len: usize, prot: i32, flags: i32, fd: i32, offset: i64) -> *mut c_void;
     fn mprotect(addr: *mut c_void, len: usize, prot: i32) -> i32;
+    fn madvise(addr: *mut c_void, len: usize, advice: i32) -> i32;
     fn sysconf(name: i32) -> i64;
 }
 
@@ -18,6 +19,7 @@ const PROT_WRITE: i32 = 2;
 const MAP_PRIVATE: i32 = 0x02;
 const MAP_ANONYMOUS: i32 = 0x20;
 const MAP_NORESERVE: i32 = 0x4000;
+const MADV_HUGEPAGE: i32 = 14;
 const SC_PAGESIZE: i32 = 30;
 
 /// So many bytes on either side of a buffer get new random content with each loan; the rest keeps older content.
@@ -156,10 +158,15 @@ pub fn huge(len: usize) -> Option<&'static [u8]> {
     Some(unsafe { slice::from_raw_parts(start, len) })
 }
 
-/// The same, but the first page can be written as well.
-pub fn huge_with_front(len: usize) -> Option<*mut u8> {
+/// The same, but the pages at these places can be written as well.
+pub fn huge_with_pages(len: usize, places: &[usize]) -> Option<*mut u8> {
     let start = map(len, PROT_READ, MAP_NORESERVE)?;
-    // SAFETY: the page lies inside the mapping made above.
-    let done = unsafe { mprotect(start.cast(), page_size(), PROT_READ | PROT_WRITE) };
-    (done == 0).then_some(start)
+    // SAFETY: a wish that changes no content. Where it is granted, reading all of it is fast.
+    unsafe { madvise(start.cast(), len, MADV_HUGEPAGE) };
+    let writable = |&place: &usize| {
+        let page = start.wrapping_add(place);
+        // SAFETY: the page lies inside the mapping made above.
+        unsafe { mprotect(page.cast(), page_size(), PROT_READ | PROT_WRITE) == 0 }
+    };
+    places.iter().all(writable).then_some(start)
 }

@@ -1,5 +1,7 @@
-//! The model against document 01 itself, without the library: the marked cases, the example words and their texts,
-//! published GHASH values, and each of the model's methods against another one.
+//! The model against the papers themselves, without the library: the marked cases, the example words and their texts,
+//! records by hand, published GHASH values, and each of the model's methods against another one.
+
+mod traces;
 
 use crate::model::execute::{execute, Request};
 use crate::model::field::{from_bits, inverse, single, times, to_bits, Block, ONE, ZERO};
@@ -21,6 +23,7 @@ pub fn run(seed: u64) -> bool {
     checks.push(("the example words", example_words()));
     checks.push(("mask and match against the table of fields", decoder_follows_table(&mut rng)));
     checks.extend(texts(&mut rng));
+    checks.extend(traces::checks(&mut rng));
     checks.push(("coefficient k is bit 7 - k mod 8 of byte k div 8", places()));
     checks.push(("the product against the bit-by-bit rule", product_follows_rule(&mut rng)));
     checks.push(("the inverse by power against the linear system", inverses(&mut rng)));

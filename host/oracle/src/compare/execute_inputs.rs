@@ -49,8 +49,14 @@ pub const BAD_LMULS: [u32; 10] = [0, 3, 5, 6, 7, 9, 16, 32, 0x0200_0001, u32::MA
 /// Any case.
 pub fn any(rng: &mut Rng) -> Case {
     let bad = rng.pick(&[0, 0, 0, 20, 60, 300]);
-    let row = &TABLE[rng.below(8)];
     let vlen = setting(rng, &VLENS, &BAD_VLENS, bad);
+    let file = file(rng, vlen, bad);
+    Case { file, ..call(rng, vlen, bad) }
+}
+
+/// Any call under this VLEN, with no file yet.
+pub fn call(rng: &mut Rng, vlen: u32, bad: usize) -> Case {
+    let row = &TABLE[rng.below(8)];
     let lmul = setting(rng, &LMULS, &BAD_LMULS, bad);
     let any_sew = setting(rng, &SEWS, &BAD_SEWS, bad);
     let sew = if row.kind.is_ghash() && !rng.often(bad) { 32 } else { any_sew };
@@ -67,8 +73,15 @@ pub fn any(rng: &mut Rng) -> Case {
         vl,
         vstart,
         scalar: Hex(scalar(rng)),
-        file: file(rng, vlen, bad),
+        file: Bytes(vec![]),
     }
+}
+
+/// A VLEN and a file of which one at least is not allowed.
+pub fn not_allowed(rng: &mut Rng) -> (u32, Bytes) {
+    let (bad_vlen, bad_file) = rng.pick(&[(1000, 0), (1000, 300), (0, 1000)]);
+    let vlen = setting(rng, &VLENS, &BAD_VLENS, bad_vlen);
+    (vlen, file(rng, vlen, bad_file))
 }
 
 /// The 64-bit product of a single bit with each single bit: for each carry-less word and each bit of the multiplier one

@@ -9,9 +9,12 @@ mod inputs;
 mod limit;
 mod past_32_bits;
 mod product;
+mod record;
+mod replay;
 mod running;
 mod step_back;
 mod texts;
+mod trace_inputs;
 mod word_inputs;
 mod words;
 mod written;
@@ -32,5 +35,7 @@ pub fn run(run: &Run) {
     degree::run(run);
     words::run(run);
     texts::run(run);
+    record::run(run);
+    replay::run(run);
     past_32_bits::run(run);
 }

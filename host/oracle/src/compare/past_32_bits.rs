@@ -4,11 +4,13 @@
 use super::group::{lend_number, number_in};
 use super::inputs::out_after;
 use super::running::{from_memory, to_memory, Shown};
-use crate::ffi::{rvghash_assemble, rvghash_degree, rvghash_disassemble, rvghash_execute, rvghash_step_back};
-use crate::ffi::{PATHS, RUNNING_SIZE};
-use crate::lent::{huge, huge_with_front, strays, Lent};
+use crate::ffi::{rvghash_assemble, rvghash_degree, rvghash_disassemble, rvghash_execute, rvghash_put_record};
+use crate::ffi::{rvghash_replay, rvghash_step_back, PATHS, RUNNING_SIZE};
+use crate::lent::{huge, huge_with_pages, strays, Lent};
 use crate::model::field::{Block, ZERO};
 use crate::model::hash::LIMIT;
+use crate::model::record::RECORD;
+use crate::model::replay::DIFFERS;
 use crate::model::running::{State, FRESH};
 use crate::model::text::{assemble_call, disassemble_call};
 use crate::report::{Bytes, Group, Hex, Run, Seen, Text};
@@ -23,8 +25,9 @@ const FRONT: usize = 64;
 
 pub fn run(run: &Run) {
     let mut group = Group::new(run, "lengths past 2^32");
-    let (zeros, front) = match (huge(PAST + 2 * LIMIT), huge_with_front(PAST + FRONT)) {
-        (Some(zeros), Some(front)) => (zeros, front),
+    let with_pages = |places| huge_with_pages(PAST + FRONT, places);
+    let (zeros, front, trace) = match (huge(PAST + 2 * LIMIT), with_pages(&[0]), with_pages(&[0, PAST])) {
+        (Some(zeros), Some(front), Some(trace)) => (zeros, front, trace),
         _ => return println!("skipped: lengths past 2^32: the system gives no such address space"),
     };
     let mut rng = group.rng(0);
@@ -34,7 +37,11 @@ pub fn run(run: &Run) {
     pieces(&mut group, &mut rng, zeros);
     listings(&mut group, &mut rng, front);
     texts(&mut group, &mut rng, front);
-    group.end(&[0, 1, 2, 9, 11]);
+    records(&mut group, &mut rng, front);
+    torn_traces(&mut group, &mut rng, trace);
+    whole_traces(&mut group, &mut rng, trace);
+    replay_file(&mut group, &mut rng, zeros);
+    group.end(&[0, 1, 2, 9, 11, 14, DIFFERS]);
 }
 
 /// A file length that is right once cut to 32 bits.
@@ -163,6 +170,76 @@ fn texts(group: &mut Group, rng: &mut Rng, front: *mut u8) {
             // SAFETY: so many bytes can be read.
             let answer = unsafe { rvghash_assemble(front, text_len, pointer) };
             Seen { answer, left: Bytes(word.content().to_vec()), stray: strays(&[&word]) }
+        });
+    }
+}
+
+/// Lent bytes for a record that are 24 once cut to 32 bits.
+fn records(group: &mut Group, rng: &mut Rng, front: *mut u8) {
+    let before = rng.bytes(FRONT);
+    put(front, &before);
+    for record_len in [PAST, PAST + RECORD] {
+        group.compare(&("rvghash_put_record", record_len), Seen::expected(14, Bytes(before.clone())), || {
+            // SAFETY: so many bytes can be read; the call must refuse them.
+            let answer = unsafe { rvghash_put_record(0x3221_E0D7, 8, 1, 0, 1, 0, 3, front, record_len) };
+            Seen::expected(answer, Bytes(content(front)))
+        });
+    }
+}
+
+/// Compares a replay of the bytes from `trace` on, which must leave the file as it is and 0 as the index.
+fn with_trace(group: &mut Group, rng: &mut Rng, trace: *const u8, trace_len: usize, answer: u32) {
+    let (mut file, mut index) = (Lent::write("file", 512), Lent::write("index", size_of::<usize>()));
+    let before = rng.bytes(512);
+    let model = Seen::expected(answer, (0, Bytes(before.clone())));
+    group.compare(&("rvghash_replay", trace_len), model, || {
+        let file_pointer = file.lend(rng, &before);
+        let index_pointer = lend_number(&mut index, rng);
+        // SAFETY: so many bytes can be read, and the file and the index stand alone.
+        let answer = unsafe { rvghash_replay(128, file_pointer, 512, trace, trace_len, index_pointer) };
+        let left = (number_in(&index), Bytes(file.content().to_vec()));
+        Seen { answer, left, stray: strays(&[&file, &index]) }
+    });
+}
+
+/// vclmul.vx v1, v2, x3 at SEW 64, done: the first bytes of the traces here.
+const DONE: [u8; RECORD] = [0xD7, 0xE0, 0x21, 0x32, 64, 1, 0, 0, 2, 0, 0, 0, 0, 0, 0, 0, 3, 0, 0, 0, 0, 0, 0, 0];
+
+/// Traces that are whole once cut to 32 bits.
+fn torn_traces(group: &mut Group, rng: &mut Rng, trace: *mut u8) {
+    put(trace, &DONE);
+    for trace_len in [PAST, PAST + RECORD, PAST + 2 * RECORD] {
+        assert_ne!(trace_len % RECORD, 0);
+        with_trace(group, rng, trace, trace_len, 14);
+    }
+}
+
+/// A trace of 2^32 bytes and a few that differs at its first record, and then has a byte in the zero place of its last.
+fn whole_traces(group: &mut Group, rng: &mut Rng, trace: *mut u8) {
+    const LEN: usize = PAST + 8 + RECORD;
+    assert_eq!(LEN % RECORD, 0);
+    let mut differs = DONE;
+    differs[6] = 1;
+    put(trace, &differs);
+    with_trace(group, rng, trace, LEN, DIFFERS);
+    put(trace.wrapping_add(LEN - RECORD), &[0, 0, 0, 0, 0, 0, 0, 1]);
+    with_trace(group, rng, trace, LEN, 14);
+}
+
+/// A file length that is right once cut to 32 bits: the call answers 1, and the record says so.
+fn replay_file(group: &mut Group, rng: &mut Rng, zeros: &[u8]) {
+    let (mut trace, mut index) = (Lent::read("trace", RECORD), Lent::write("index", size_of::<usize>()));
+    let mut record = DONE;
+    record[6] = 1;
+    for vlen in [128, 256, 512] {
+        let file_len = PAST + 4 * vlen as usize;
+        group.compare(&("rvghash_replay", vlen, file_len), Seen::expected(0, 1), || {
+            let trace_pointer = trace.lend(rng, &record);
+            let index_pointer = lend_number(&mut index, rng);
+            let file = zeros.as_ptr() as *mut u8;
+            // SAFETY: the file is readable; no call may write it, and a write would be a crash, which is told.
+            let answer = unsafe { rvghash_replay(vlen, file, file_len, trace_pointer, RECORD, index_pointer) };
+            Seen { answer, left: number_in(&index), stray: strays(&[&trace, &index]) }
         });
     }
 }

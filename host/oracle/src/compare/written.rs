@@ -4,14 +4,18 @@
 use super::execute_inputs::{any, single_bits, Case};
 use super::hash::cut;
 use super::inputs::{block, out_after, out_before, part_length, perhaps_odd};
+use super::record::any_put;
 use super::running::{any_state, any_step, to_memory, Step, Which};
 use super::step_back::any_case;
 use super::texts::any_text;
+use super::trace_inputs::{any_recording, any_refused_recording, Replay};
 use super::word_inputs::{any_buffer, any_fields, any_word};
 use crate::ffi::{Path, PATHS};
 use crate::model::execute::execute;
 use crate::model::field::{Block, ZERO};
 use crate::model::hash::ghash_call;
+use crate::model::record::put_record_call;
+use crate::model::replay::replay_call;
 use crate::model::running::{transition, Fed, State, FRESH};
 use crate::model::step_back::step_back_call;
 use crate::model::text::{assemble_call, disassemble_call};
@@ -32,6 +36,8 @@ enum Function {
     Decode,
     Disassemble,
     Assemble,
+    PutRecord,
+    Replay,
 }
 
 impl Function {
@@ -48,6 +54,8 @@ impl Function {
             Function::Decode => 11,
             Function::Disassemble => 12,
             Function::Assemble => 13,
+            Function::PutRecord => 14,
+            Function::Replay => 15,
         }
     }
 }
@@ -193,13 +201,35 @@ impl Cases {
         let word = [rng.u32(), word].map(u32::to_le_bytes);
         self.call(Function::Assemble, answer, &[], &[read(&text), lent(4, &word[0], &word[1])])
     }
+
+    fn record(&mut self, rng: &mut Rng) -> Result<()> {
+        let put = any_put(rng);
+        let (answer, after) = put_record_call(&put.record, &put.before.0);
+        let r = &put.record;
+        let [word, sew, lmul, told, vl, vstart] = [r.word, r.sew, r.lmul, r.answer, r.vl, r.vstart].map(u64::from);
+        let scalars = [word, sew, lmul, told, vl, vstart, r.scalar];
+        self.call(Function::PutRecord, answer, &scalars, &[lent(1, &put.before.0, &after)])
+    }
+
+    /// A trace whole and with something wrong.
+    fn recording(&mut self, rng: &mut Rng) -> Result<()> {
+        let recording = if rng.often(150) { any_refused_recording(rng) } else { any_recording(rng) };
+        recording.replays(rng).iter().try_for_each(|replay| self.replay(rng, replay))
+    }
+
+    fn replay(&mut self, rng: &mut Rng, r: &Replay) -> Result<()> {
+        let after = replay_call(r.vlen, &r.file.0, &r.trace.0);
+        let index = [rng.u64(), after.index as u64].map(u64::to_le_bytes);
+        let buffers = [lent(1, &r.file.0, &after.file), read(&r.trace), lent(8, &index[0], &index[1])];
+        self.call(Function::Replay, after.answer, &[r.vlen as u64], &buffers)
+    }
 }
 
 /// Writes the cases of this seed.
 pub fn write(run: &Run, path: &str) -> Result<()> {
     let mut cases = Cases { out: BufWriter::new(File::create(path)?) };
     cases.out.write_all(b"rvghash cases 1\n")?;
-    let groups: [(&str, u64, fn(&mut Cases, &mut Rng) -> Result<()>); 8] = [
+    let groups: [(&str, u64, fn(&mut Cases, &mut Rng) -> Result<()>); 10] = [
         ("executions", 24_000, Cases::any_execution),
         ("step backs", 1_200, Cases::step_back),
         ("messages, whole and in pieces", 600, Cases::message),
@@ -208,6 +238,8 @@ pub fn write(run: &Run, path: &str) -> Result<()> {
         ("words decoded", 4_000, Cases::decoded_word),
         ("words listed", 6_000, Cases::listed_word),
         ("texts read", 10_000, Cases::read_text),
+        ("records", 3_000, Cases::record),
+        ("traces, each replayed four times", 500, Cases::recording),
     ];
     for (name, count, one) in groups {
         for index in 0..count * run.factor {

@@ -1,4 +1,5 @@
-//! The independent model: document 01, and document 02's Ask 1, put into code by other methods than the library's.
+//! The independent model: document 01, and document 02's Asks 1 and 3, put into code by other methods than the
+//! library's.
 
 pub mod execute;
 pub mod field;
@@ -6,7 +7,9 @@ pub mod group;
 pub mod hash;
 pub mod linear;
 pub mod poly;
+pub mod record;
 pub mod refusal;
+pub mod replay;
 pub mod running;
 pub mod step_back;
 pub mod text;

@@ -1,0 +1,46 @@
+/* Reads records from the bytes of a trace, and finds what is no record. */
+#include "rvghash.h"
+#include "trace.h"
+
+#define ZERO_BYTE 7 /* of a record, after the answer */
+
+/* A number of some bytes, the low byte first. */
+static uint64_t number_at(const uint8_t *bytes, int count)
+{
+    uint64_t number = 0;
+    while (count-- > 0)
+        number = number << 8 | bytes[count];
+    return number;
+}
+
+struct record record_of(const struct bytes *trace, size_t index)
+{
+    const uint8_t *bytes = trace->at + RVGHASH_RECORD_BYTES * index;
+    struct record record = {
+        .word = (uint32_t)number_at(bytes, 4),
+        .sew = bytes[4],
+        .lmul = bytes[5],
+        .answer = bytes[6],
+        .vl = (uint32_t)number_at(bytes + 8, 4),
+        .vstart = (uint32_t)number_at(bytes + 12, 4),
+        .scalar = number_at(bytes + 16, 8),
+    };
+    return record;
+}
+
+enum status look_through(const char *name, const struct bytes *trace)
+{
+    size_t records = trace->length / RVGHASH_RECORD_BYTES, torn = trace->length % RVGHASH_RECORD_BYTES;
+    if (torn > 0) {
+        fprintf(stderr, "%s: refused (%d): the length %zu is no multiple of %d: record %zu is torn after %zu of its bytes\n",
+                shown_name(name), RVGHASH_BAD_TRACE, trace->length, RVGHASH_RECORD_BYTES, records, torn);
+        return STATUS_FAILED;
+    }
+    for (size_t at = ZERO_BYTE; at < trace->length; at += RVGHASH_RECORD_BYTES)
+        if (trace->at[at] != 0) {
+            fprintf(stderr, "%s: refused (%d): the zero byte of record %zu, at offset %zu, is 0x%02X\n", shown_name(name),
+                    RVGHASH_BAD_TRACE, at / RVGHASH_RECORD_BYTES, at, trace->at[at]);
+            return STATUS_FAILED;
+        }
+    return STATUS_DONE;
+}
