@@ -35,20 +35,15 @@ use Rattle.vector_reader.proofs.Reading.{found, not-a-word, its-text, other-tex
 use Rattle.vector_refusal.specs.Refusal.{refusalOf, refusalOfKnown}
 use Rattle.vector_element.specs.Clmul.{clmul, clmul64}
 use Rattle.vector_element.specs.Pieces.{clmul8, sum, sumOfProducts, evenProducts}
-use Rattle.octets.specs.LittleEndian.{readLe, writeLe, leBytes}
+use Rattle.octets.specs.LittleEndian.{readLe, writeLe}
 use Rattle.vector_element.specs.Element.{maskBit, blockPlace}
 use Rattle.vector_clmul.specs.Carryless.{carrylessResult, carrylessStep, carryless}
 use Rattle.vector_element.specs.Steps.{steps}
 use Rattle.vector_ghash.specs.declared.GhashMultiplier.{GhashMultiplier}
 use Rattle.vector_ghash.specs.declared.GhashMultiplier.the-variants.{YXorX, YAlone}
 use Rattle.vector_ghash.specs.GhashWords.{group, multiplierOf, vvStep, vsStep, ghashVv, ghashVs}
-use Rattle.trace_record.specs.Record.{recordAt, recordsFrom, recordBytes, writeNumber, writtenInto, zeroByteAt}
-use Rattle.trace_reader.specs.Reader.{nextAt, placeAfter}
-use Rattle.trace_form.specs.Form.{zeroBytesFrom, wellFormed}
-use Rattle.trace_replay.specs.declared.Replayed.{Replayed}
-use Rattle.trace_replay.specs.Replay.{replayFrom, replayed, numberOf as replayNumber, indexOf}
 use Rattle.vector_execute.specs.Execute.{doneKnown, done, executed, vstartAfter}
-use Rattle.theorems.specs.Examples.{Example, call, known, word, encodes, decodes, lists, lists-as, lists-into, reads, question, part, times, hash, backward, out, written, state, feeds, finishes, degree, degreeOfBytes, back, pieces, sums, four, writes, gives, replays, execution, running, file, numbered, givenBytes, table, Holds, AllHold, ExamplesHold}
+use Rattle.theorems.specs.Examples.{Example, call, known, word, encodes, decodes, lists, lists-as, lists-into, reads, question, part, times, hash, backward, out, written, state, feeds, finishes, degree, degreeOfBytes, back, pieces, sums, four, execution, running, file, table, Holds, AllHold, ExamplesHold}
 use Rattle.theorems.proofs.Marked.{same, numbersOf, goesBack, same-at, is-word, goes-back}
 
 -- ---- a call that computes fast: the executor's definition over the product, which is then the quick one
@@ -133,11 +128,6 @@ readBy s =
     (cond (same (text (kindIn s) (fieldsIn (kindIn s) s)) s) (found s) (record { number = 2; word = 0 }))
     (found s)
 
--- ---- a replay's number and index in a row
-
-abbrev replayNumbers : Replayed → List ℕ
-replayNumbers r = replayNumber r ∷ indexOf r ∷ []
-
 -- ---- the test
 
 numberOf : Bool → ℕ
@@ -172,17 +162,12 @@ right (back h x y1 number block) = goesBack (eqb h 0) (eqb y1 0) h x y1 number b
 right (pieces p q product) = eqb (clmul8 p q) product
 right (sums m n a b product) = eqb (sumOfProducts m n a b) product
 right (four a q products) = eqb (evenProducts a q) products
-right (writes before sew lmul answer number after) =
-    eqb (writeNumber (length before) (numbered sew lmul answer)) number && same (writtenInto before (numbered sew lmul answer)) after
-right (gives trace at given place) = same (givenBytes (nextAt trace at)) given && eqb (placeAfter trace at) place
-right (replays vlen before trace number index after) =
-    same (replayNumbers (replayed vlen before trace .answer)) (number ∷ index ∷ []) && same (replayed vlen before trace .file) after
 right (execution w s scalar before changed vstart) =
     same (executedBy quickProduct w s scalar (file before)) (file (changed ++ before)) && eqb (vstartAfter (length (file before)) w s) vstart
 
 -- ---- what the test shows
 
-same-list : (xs ys : List ℕ) → T (same xs ys) → xs ≡ ys
+pub same-list : (xs ys : List ℕ) → T (same xs ys) → xs ≡ ys
 unfolding same
 same-list [] [] t = refl
 same-list [] (y ∷ ys) t = absurd t
@@ -263,21 +248,6 @@ shows (back h x y1 number block) t = goes-back h x y1 number block (eqb h 0) (eq
 shows (pieces p q product) t = eqb→eq (clmul8 p q) product t
 shows (sums m n a b product) t = eqb→eq (sumOfProducts m n a b) product t
 shows (four a q products) t = eqb→eq (evenProducts a q) products t
-shows (writes before sew lmul answer number after) t =
-    let r = numbered sew lmul answer in
-    let a = eqb (writeNumber (length before) r) number in
-    let b = same (writtenInto before r) after in
-    (eqb→eq (writeNumber (length before) r) number (and-left a b t), same-list (writtenInto before r) after (and-right a b t))
-shows (gives trace at given place) t =
-    let a = same (givenBytes (nextAt trace at)) given in
-    let b = eqb (placeAfter trace at) place in
-    (same-list (givenBytes (nextAt trace at)) given (and-left a b t), eqb→eq (placeAfter trace at) place (and-right a b t))
-shows (replays vlen before trace number index after) t =
-    let o = replayed vlen before trace in
-    let a = same (replayNumbers (o .answer)) (number ∷ index ∷ []) in
-    let b = same (o .file) after in
-    let e = same-at (replayNumbers (o .answer)) (number ∷ index ∷ []) (and-left a b t) in
-    (e 0, e 1, same-list (o .file) after (and-right a b t))
 shows (execution w s scalar before changed vstart) t =
     let a = same (executedBy quickProduct w s scalar (file before)) (file (changed ++ before)) in
     let b = eqb (vstartAfter (length (file before)) w s) vstart in (
@@ -298,5 +268,5 @@ all-show [] t = tt
 all-show (e ∷ es) t = (shows e (and-left (right e) (allRight es) t), all-show es (and-right (right e) (allRight es) t))
 
 pub examples : ExamplesHold
-unfolding recordAt recordsFrom recordBytes zeroByteAt zeroBytesFrom wellFormed replayFrom replayed executed leBytes table allRight right same finished numbersOf readBy text fieldsIn goesBack decode refusalOf refusalOfKnown groupRefusal numberOf file quickXOf quickSteps quickProduct beAt beBytes highest degreeOf coeffOf executedBy doneBy ghashBy steps clmul clmul64 clmul8 sum readLe writeLe maskBit carrylessResult carrylessStep carryless
+unfolding table allRight right same finished numbersOf readBy text fieldsIn goesBack decode refusalOf refusalOfKnown groupRefusal numberOf file quickXOf quickSteps quickProduct beAt beBytes highest degreeOf coeffOf executedBy doneBy ghashBy steps clmul clmul64 clmul8 sum readLe writeLe maskBit carrylessResult carrylessStep carryless
 examples = record { rows = refl; all = all-show table tt }

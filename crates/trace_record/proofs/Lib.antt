@@ -1,3 +1,3 @@
-pub mod Fields
+pub mod Bytes
 pub mod RoundTrip
 pub mod Same

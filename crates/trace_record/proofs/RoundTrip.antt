@@ -14,7 +14,7 @@ use Rattle.octets.proofs.Stores.{sets-at}
 use Rattle.trace_record.specs.declared.Record.{Record}
 use Rattle.trace_record.specs.Record.{recordAt, zeroByteAt, recordBytes}
 use Rattle.trace_record.specs.RoundTrip.{WrittenIsRead, ReadIsWritten}
-use Rattle.trace_record.proofs.Fields.{length-recordBytes}
+use Rattle.trace_record.proofs.Bytes.{length-recordBytes}
 
 -- ---- written, then read
 

@@ -1,5 +1,8 @@
--- `trace_reader::next_record` meets its contract: a walk of its MIR, by hand. The borrow is opened, which gives the struct's cell and what the struct owns; the slice and the number are read, and `next_at` and `place_after` are called on them; the number that `place_after` returned is stored in the cell; and the borrow is closed at the struct with that number.
--- The struct is Copy: before each call what it owns is had twice, and of one copy what trace owns goes to the callee, beside the token of 'a, which comes back. All that the proof knows of the two callees is that each meets its contract.
+-- `next_record` meets its contract: a walk of its MIR, by hand. The borrow is opened, which gives the struct's cell and what the struct owns;
+-- the slice and the number are read, and `next_at` and `place_after` are called on them; the number that `place_after` returned is stored in
+-- the cell; and the borrow is closed at the struct with that number.
+-- The struct is Copy: before each call what it owns is had twice, and of one copy what trace owns goes to the callee, beside the token of 'a,
+-- which comes back. All that the proof knows of the two callees is that each meets its contract.
 -- Assumes nothing.
 use mathlib.Core.Path.{_≡_, refl, ap}
 use Prim.Native.Nat.{ℕ, _<_, _^_}

@@ -21,7 +21,8 @@ same-length c = search needs
 returns : tie.Need-returns
 returns c =
     let p = c .before .before in
-    p .put .ensures ∙ ap (sets (p .before .before .before .before .before .args .s .now) (p .before .before .before .before .before .args .at)) (p .before .before .record-bytes .ensures)
+    let a = p .before .before .before .before .before .args in
+    p .put .ensures ∙ ap (sets (a .s .now) (a .at)) (p .before .before .record-bytes .ensures)
 
 pub put-record-spec : {M : Type 1} → statement M
 put-record-spec =

@@ -1,11 +1,9 @@
-use Prim.Native.Nat.{ℕ}
-use mathlib.Core.List.{List}
-use mathlib.Core.Path.{ap, _∙_}
-use Rattle.octets.specs.LittleEndian.{writeLe}
 -- `record_bytes` gives a record's bytes: its fields, each written at its place over zeros.
 -- Assumes nothing.
-use Rattle.trace_record.proofs.Fields.{filled}
+use mathlib.Core.Path.{refl}
 use borrow.Author.Needs.{needs}
+use Rattle.octets.specs.LittleEndian.{writeLe, leBytes}
+use Rattle.trace_record.specs.Record.{recordBytes}
 use Rattle.trace_record.proofs.record_bytes.Statement.{statement}
 use Rattle.trace_record.proofs.record_bytes.Tie as tie
 
@@ -70,6 +68,7 @@ write-le-requires-7 : tie.Need-write-le-requires-7
 write-le-requires-7 c κs = search needs
 
 returns : tie.Need-returns
+unfolding writeLe leBytes recordBytes
 returns c =
     let scalar = c .before in
     let vstart = scalar .before .before .before in
@@ -78,20 +77,16 @@ returns c =
     let lmul = answer .before .before .before .before in
     let sew = lmul .before .before .before .before in
     let word = sew .before .before .before .before in
-    let r = word .before .before .before .args .r in
-    scalar .write-le7 .ensures
-    ∙ ap (λ (b : List ℕ). writeLe 8 b 16 (r .scalar))
-    (vstart .write-le6 .ensures
-    ∙ ap (λ (b : List ℕ). writeLe 4 b 12 (r .vstart))
-    (vl .write-le5 .ensures
-    ∙ ap (λ (b : List ℕ). writeLe 4 b 8 (r .vl))
-    (answer .write-le4 .ensures
-    ∙ ap (λ (b : List ℕ). writeLe 1 b 6 (r .answer))
-    (lmul .write-le3 .ensures
-    ∙ ap (λ (b : List ℕ). writeLe 1 b 5 (r .lmul))
-    (sew .write-le2 .ensures
-    ∙ ap (λ (b : List ℕ). writeLe 1 b 4 (r .sew)) (word .write-le .ensures))))))
-    ∙ filled r
+    rw (
+      scalar .write-le7 .ensures,
+      vstart .write-le6 .ensures,
+      vl .write-le5 .ensures,
+      answer .write-le4 .ensures,
+      lmul .write-le3 .ensures,
+      sew .write-le2 .ensures,
+      word .write-le .ensures,
+    )
+    refl
 
 pub record-bytes-spec : {M : Type 1} → statement M
 record-bytes-spec =

@@ -5,7 +5,7 @@ use lib.ListN.{length}
 use borrow.Author.Tests.{eq-eqb, ne-eqb}
 use Rattle.octets.proofs.Stores.{sets-whole}
 use Rattle.trace_record.specs.Record.{recordBytes}
-use Rattle.trace_record.proofs.Fields.{length-recordBytes}
+use Rattle.trace_record.proofs.Bytes.{length-recordBytes}
 use borrow.Author.Needs.{needs}
 use Rattle.trace_record.proofs.write_record.Statement.{statement}
 use Rattle.trace_record.proofs.write_record.Tie as tie

@@ -11,8 +11,8 @@ use borrow.Author.Tests.{not-true, not-false}
 use lib.ListN.{length}
 use Rattle.trace_record.specs.Record.{recordsFrom}
 use Rattle.trace_replay.specs.declared.Replayed.the-variants.{Done, Differs}
-use Rattle.trace_replay.specs.Replay.{Outcome, replayFrom, replayed}
-use Rattle.trace_replay.proofs.Fold.{left, same-more, differs-more}
+use Rattle.trace_replay.specs.Replay.{replayFrom, replayed}
+use Rattle.trace_replay.proofs.Fold.{left, same-more, differs-more, ends}
 use Rattle.trace_replay.proofs.replay.Statement.{statement}
 use Rattle.trace_replay.proofs.replay.Tie as tie
 
@@ -48,20 +48,18 @@ same-length : tie.Need-same-length Inv-loop μ-loop
 same-length c = let done = c .before .before .before in done .replay-record .kept .1 .1 .0 ∙ done .before .before .before .before .loop .inv .1
 
 returns-2 : tie.Need-returns-2 Inv-loop μ-loop
-unfolding replayed
 returns-2 c =
     let done = c .before .before .before in
     let read = done .before .before in
     let l = read .before .before in
-    let a = l .before .before .before .before .before .args in
+    let form = l .before .before in
+    let a = form .before .before .before .args in
     let told = done .replay-record .ensures in
-    let all = replayFrom (a .vlen) (recordsFrom (length (a .trace .now) / 24) (a .trace .now) 0) 0 (a .file .now) in
-    let ends : all ≡ record { answer = Differs (l .loop .i); file = done .replay-record .last .1 .1 .0 } =
-    sym (l .loop .inv .2)
+    ends (a .vlen) (a .file .now) (a .trace .now) _ (sym (form .well-formed .ensures) ∙ not-false (form .well-formed .result) (l .before .if1 .left))
+    (sym (l .loop .inv .2)
     ∙ differs-more (a .vlen) _ (a .trace .now) (l .loop .i) (l .loop .file) (read .record-at .result)
     (read .before .loop-test .taken) (read .record-at .ensures) (sym (told .0) ∙ not-true (done .replay-record .result) (c .if2 .taken))
-    ∙ ap (λ (f : List ℕ). record { answer = Differs (l .loop .i); file = f }) (sym (told .1)) in
-    rw (sym (l .before .before .well-formed .ensures) ∙ not-false (l .before .before .well-formed .result) (l .before .if1 .left)) (sym (ap (λ (o : Outcome). o .answer) ends), sym (ap (λ (o : Outcome). o .file) ends))
+    ∙ ap (λ (f : List ℕ). record { answer = Differs (l .loop .i); file = f }) (sym (told .1)))
 
 add-i : tie.Need-add-i Inv-loop μ-loop
 add-i c = search needs
@@ -88,19 +86,18 @@ same-length-2 : tie.Need-same-length-2 Inv-loop μ-loop
 same-length-2 c = c .before .loop .inv .1
 
 returns-3 : tie.Need-returns-3 Inv-loop μ-loop
-unfolding replayed recordsFrom replayFrom
+unfolding recordsFrom replayFrom
 returns-3 c =
     let l = c .before in
-    let a = l .before .before .before .before .before .args in
+    let form = l .before .before in
+    let a = form .before .before .before .args in
     let n = length (a .trace .now) / 24 in
     let none : n - l .loop .i ≡ 0 = omega arith in
     let last : l .loop .i ≡ n = omega arith in
-    let all = replayFrom (a .vlen) (recordsFrom n (a .trace .now) 0) 0 (a .file .now) in
-    let ends : all ≡ record { answer = Done n; file = l .loop .file } =
-    sym (l .loop .inv .2)
+    ends (a .vlen) (a .file .now) (a .trace .now) _ (sym (form .well-formed .ensures) ∙ not-false (form .well-formed .result) (l .before .if1 .left))
+    (sym (l .loop .inv .2)
     ∙ ap (λ (k : ℕ). replayFrom (a .vlen) (recordsFrom k (a .trace .now) (24 * l .loop .i)) (l .loop .i) (l .loop .file)) none
-    ∙ ap (λ (k : ℕ). record { answer = Done k; file = l .loop .file }) last in
-    rw (sym (l .before .before .well-formed .ensures) ∙ not-false (l .before .before .well-formed .result) (l .before .if1 .left)) (sym (ap (λ (o : Outcome). o .answer) ends), sym (ap (λ (o : Outcome). o .file) ends))
+    ∙ ap (λ (k : ℕ). record { answer = Done k; file = l .loop .file }) last)
 
 pub replay-spec : {M : Type 1} → statement M
 replay-spec =
