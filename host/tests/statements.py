@@ -126,7 +126,7 @@ AN_EDIT = min(EDITS)[1]
 
 # Names that are nowhere, and a line of a page that has each: in a paragraph or in a row of a table.
 NOWHERE = [
-    ("half_ofx", "| a promise | `vector_element::clmul::clmul64`, `half_ofx` | the check itself |"),
+    ("half_ofx", "| a promise | `vector_product::clmul::clmul64`, `half_ofx` | the check itself |"),
     ("carry_of_nothing_at_all", "Each with a must-fail edit of its constant: `carry_of_nothing_at_all`."),
     ("no_such_thing", "A block is a number (`no_such_thing`)."),
     ("element::elephant::*", "| a promise | `element::elephant::*` | the check itself |"),

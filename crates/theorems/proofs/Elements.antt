@@ -14,11 +14,11 @@ use lib.Pow.{pow-pos}
 use Rattle.vector_registers.specs.declared.settings.Settings.{Settings}
 use Rattle.vector_word.specs.declared.Fields.{Fields}
 use Rattle.vector_registers.specs.Settings.{registerBytes, groupRegisters}
-use Rattle.vector_element.specs.declared.clmul.Half.{Half}
-use Rattle.vector_element.specs.declared.clmul.Half.the-variants.{Low, High}
+use Rattle.vector_product.specs.declared.clmul.Half.{Half}
+use Rattle.vector_product.specs.declared.clmul.Half.the-variants.{Low, High}
 use Rattle.vector_clmul.specs.declared.Multiplier.{Multiplier}
 use Rattle.vector_clmul.specs.declared.Multiplier.the-variants.{Vs1, Scalar}
-use Rattle.vector_element.specs.Clmul.{halfOf, clmul64}
+use Rattle.vector_product.specs.Clmul.{halfOf, clmul64}
 use Rattle.octets.specs.LittleEndian.{readLe, writeLe}
 use Rattle.vector_element.specs.Element.{elementAt, maskBit}
 use Rattle.vector_clmul.specs.Carryless.{active, element, multiplierOf, carrylessResult, carrylessStep, carryless}

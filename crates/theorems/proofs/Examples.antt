@@ -33,8 +33,8 @@ use Rattle.vector_reader.specs.Reading.{Reads}
 use Rattle.vector_reader.specs.Scan.{kindIn, fieldsIn}
 use Rattle.vector_reader.proofs.Reading.{found, not-a-word, its-text, other-text}
 use Rattle.vector_refusal.specs.Refusal.{refusalOf, refusalOfKnown}
-use Rattle.vector_element.specs.Clmul.{clmul, clmul64}
-use Rattle.vector_element.specs.Pieces.{clmul8, sum, sumOfProducts, evenProducts}
+use Rattle.vector_product.specs.Clmul.{clmul, clmul64}
+use Rattle.vector_product.specs.Pieces.{clmul8, sum, sumOfProducts, evenProducts}
 use Rattle.octets.specs.LittleEndian.{readLe, writeLe}
 use Rattle.vector_element.specs.Element.{maskBit, blockPlace}
 use Rattle.vector_clmul.specs.Carryless.{carrylessResult, carrylessStep, carryless}

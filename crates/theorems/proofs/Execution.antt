@@ -23,8 +23,8 @@ use Rattle.vector_registers.specs.Settings.{applies1, applies3}
 use Rattle.vector_refusal.specs.Refusal.{applies4, applies5, applies6, applies7, applies8, refusalOfKnown, refusalOfWord, refusalOf}
 use Rattle.vector_word.specs.Word.{decode}
 use Rattle.vector_word.proofs.Tests.{or-false, pick-next}
-use Rattle.vector_element.specs.declared.clmul.Half.{Half}
-use Rattle.vector_element.specs.declared.clmul.Half.the-variants.{Low, High}
+use Rattle.vector_product.specs.declared.clmul.Half.{Half}
+use Rattle.vector_product.specs.declared.clmul.Half.the-variants.{Low, High}
 use Rattle.vector_clmul.specs.declared.Multiplier.{Multiplier}
 use Rattle.vector_clmul.specs.declared.Multiplier.the-variants.{Vs1, Scalar}
 use Rattle.vector_ghash.specs.declared.GhashMultiplier.the-variants.{YXorX, YAlone}

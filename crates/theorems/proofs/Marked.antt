@@ -22,7 +22,7 @@ use Rattle.vector_kind.specs.Kinds.{kindNumber}
 use Rattle.vector_word.specs.declared.Word.{Word}
 use Rattle.vector_word.specs.declared.Word.the-variants.{Known, Unknown}
 use Rattle.vector_word.specs.Word.{decode, kinds}
-use Rattle.vector_element.specs.Clmul.{clmul, clmul64, lowHalf, highHalf}
+use Rattle.vector_product.specs.Clmul.{clmul, clmul64, lowHalf, highHalf}
 use Rattle.theorems.specs.Marked.{Case, carryless, times, back, word, hash, table, Holds, AllHold, MarkedCasesHold}
 
 -- ---- the test: the numbers that the written rules give are the numbers that the case says

@@ -15,7 +15,7 @@ use Rattle.vector_kind.specs.declared.Kind.{Kind}
 use Rattle.vector_word.proofs.Tests.{or-false}
 use Rattle.vector_kind.specs.Kinds.{isGhash, isVs, hasVs1Group}
 use Rattle.vector_element.specs.Element.{elementAt, blockPlace}
-use Rattle.vector_element.proofs.Sew.{SewFacts, sew-facts}
+use Rattle.vector_product.proofs.Sew.{SewFacts, sew-facts}
 use Rattle.vector_execute.proofs.Admitted.{Admitted, admitted-as, sew-allowed}
 use Rattle.vector_word.proofs.Writer.{FieldsFit, decoded-fit}
 use Rattle.theorems.specs.Execution.{pastUnit, unitBytes, placeIn, PlacesInFile, EveryPlaceInFile}

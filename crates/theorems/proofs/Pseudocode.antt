@@ -30,15 +30,15 @@ use Rattle.vector_word.specs.declared.Word.{Word}
 use Rattle.vector_word.specs.declared.Word.the-variants.{Known}
 use Rattle.vector_word.specs.Word.{decode}
 use Rattle.vector_refusal.specs.Refusal.{refusalOf}
-use Rattle.vector_element.specs.declared.clmul.Half.{Half}
-use Rattle.vector_element.specs.declared.clmul.Half.the-variants.{Low, High}
-use Rattle.vector_element.specs.Clmul as Clmul
-use Rattle.vector_element.specs.Clmul.{clmul64, lowHalf, highHalf, halfOf}
+use Rattle.vector_product.specs.declared.clmul.Half.{Half}
+use Rattle.vector_product.specs.declared.clmul.Half.the-variants.{Low, High}
+use Rattle.vector_product.specs.Clmul as Clmul
+use Rattle.vector_product.specs.Clmul.{clmul64, lowHalf, highHalf, halfOf}
 use Rattle.vector_element.specs.Element.{elementAt, blockPlace}
 use Rattle.vector_element.specs.Steps.{steps}
-use Rattle.vector_element.proofs.Bilinear.{whole, sum-lt}
-use Rattle.vector_element.proofs.Carryless.{bitOf, bit-lt}
-use Rattle.vector_element.proofs.Sew.{SewFacts}
+use Rattle.vector_product.proofs.Bilinear.{whole, sum-lt}
+use Rattle.vector_product.proofs.Carryless.{bitOf, bit-lt}
+use Rattle.vector_product.proofs.Sew.{SewFacts}
 use Rattle.vector_clmul.specs.declared.Multiplier.{Multiplier}
 use Rattle.vector_clmul.specs.declared.Multiplier.the-variants.{Vs1, Scalar}
 use Rattle.vector_clmul.specs.Carryless.{active, element, scalarOf, carrylessResult, carrylessStep, carryless}

@@ -15,7 +15,7 @@ use Rattle.vector_registers.specs.Settings.{applies1, applies3, registerBytes, 
 use Rattle.vector_registers.proofs.Allowed.{each-vlen, each-sew, each-group, times-lmul}
 use Rattle.vector_group.proofs.Groups.{last-register, registers-within}
 use Rattle.vector_word.proofs.Tests.{or-false}
-use Rattle.vector_element.proofs.Sew.{sew-facts}
+use Rattle.vector_product.proofs.Sew.{sew-facts}
 use Rattle.theorems.specs.Execution.{Within}
 
 -- ---- what the settings tell

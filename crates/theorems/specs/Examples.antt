@@ -25,7 +25,7 @@ use Rattle.vector_listing.specs.Listing.{listed, listedInto}
 use Rattle.vector_listing.specs.Text.{ascii, textOf}
 use Rattle.vector_reader.specs.Reading.{Reads}
 use Rattle.vector_refusal.specs.Refusal.{refusalOf, refusalOfKnown}
-use Rattle.vector_element.specs.Pieces.{clmul8, sumOfProducts, evenProducts}
+use Rattle.vector_product.specs.Pieces.{clmul8, sumOfProducts, evenProducts}
 use Rattle.vector_execute.specs.Execute.{executed, vstartAfter}
 
 -- VLEN, SEW, LMUL, vl and vstart

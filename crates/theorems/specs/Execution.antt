@@ -17,7 +17,7 @@ use Rattle.vector_kind.specs.Kinds.{isGhash, isVs, hasVs1Group}
 use Rattle.vector_word.specs.Word.{decode}
 use Rattle.vector_registers.specs.Settings.{registerBytes}
 use Rattle.vector_refusal.specs.Refusal.{refusalOf}
-use Rattle.vector_element.specs.Clmul.{clmul64, lowHalf, highHalf}
+use Rattle.vector_product.specs.Clmul.{clmul64, lowHalf, highHalf}
 use Rattle.vector_element.specs.Element.{elementAt, blockPlace}
 use Rattle.vector_clmul.specs.Carryless.{active, element, scalarOf}
 use Rattle.vector_ghash.specs.GhashWords.{group}

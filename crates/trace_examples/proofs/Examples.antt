@@ -11,7 +11,7 @@ use Rattle.octets.specs.LittleEndian.{readLe, writeLe, leBytes}
 use Rattle.gf128.proofs.Tests.{and-left, and-right}
 use Rattle.vector_word.specs.Word.{decode}
 use Rattle.vector_refusal.specs.Refusal.{refusalOf, refusalOfKnown}
-use Rattle.vector_element.specs.Clmul.{clmul, clmul64}
+use Rattle.vector_product.specs.Clmul.{clmul, clmul64}
 use Rattle.vector_element.specs.Element.{maskBit}
 use Rattle.vector_element.specs.Steps.{steps}
 use Rattle.vector_clmul.specs.Carryless.{carrylessResult, carrylessStep, carryless}

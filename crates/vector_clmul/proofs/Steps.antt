@@ -7,7 +7,7 @@ use Prim.Native.Nat.{ℕ, _/_}
 use Rattle.vector_word.proofs.Tests.{pick-here, pick-next}
 use Rattle.vector_registers.specs.declared.settings.Settings.{Settings}
 use Rattle.vector_word.specs.declared.Fields.{Fields}
-use Rattle.vector_element.specs.declared.clmul.Half.{Half}
+use Rattle.vector_product.specs.declared.clmul.Half.{Half}
 use Rattle.vector_clmul.specs.declared.Multiplier.{Multiplier}
 use Rattle.octets.specs.LittleEndian.{writeLe}
 use Rattle.vector_element.specs.Element.{elementAt}

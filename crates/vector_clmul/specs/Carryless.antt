@@ -4,12 +4,12 @@ use Prim.Native.Nat.{ℕ, _-_, _/_, _%_, _^_}
 use mathlib.Core.Bool.{Bool, cond, _||_}
 use mathlib.Core.List.{List}
 use lib.Dec.{eqb}
-use Rattle.vector_element.specs.declared.clmul.Half.{Half}
+use Rattle.vector_product.specs.declared.clmul.Half.{Half}
 use Rattle.vector_clmul.specs.declared.Multiplier.{Multiplier}
 use Rattle.vector_clmul.specs.declared.Multiplier.the-variants.{Vs1, Scalar}
 use Rattle.vector_registers.specs.declared.settings.Settings.{Settings}
 use Rattle.vector_word.specs.declared.Fields.{Fields}
-use Rattle.vector_element.specs.Clmul.{clmul64, halfOf}
+use Rattle.vector_product.specs.Clmul.{clmul64, halfOf}
 use Rattle.octets.specs.LittleEndian.{readLe, writeLe}
 use Rattle.vector_element.specs.Element.{elementAt, maskBit}
 use Rattle.vector_element.specs.Steps.{steps}

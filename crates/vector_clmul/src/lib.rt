@@ -6,12 +6,12 @@ ghost use Rattle.vector_registers.specs.Settings.{sewAllowed};
 ghost use Rattle.vector_clmul.specs.Carryless.{active, element, scalarOf, multiplierOf, carrylessResult, carrylessStep, carryless};
 use octets_le::read_le;
 use octets_le::write_le;
-use vector_element::clmul::Half;
-use vector_element::clmul::clmul64;
-use vector_element::clmul::half_of;
-use vector_element::clmul::low_bits;
 use vector_element::element::element_at;
 use vector_element::element::mask_bit;
+use vector_product::clmul::Half;
+use vector_product::clmul::clmul64;
+use vector_product::clmul::half_of;
+use vector_product::clmul::low_bits;
 use vector_registers::settings::Settings;
 use vector_word::Fields;
 

@@ -1,4 +1,2 @@
-pub mod Clmul
 pub mod Element
-pub mod Pieces
 pub mod Steps

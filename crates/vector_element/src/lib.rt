@@ -1,4 +1,2 @@
-// Carry-less products, and the elements of a register group with their mask bits.
-pub mod clmul;
+// Where the elements of a register group lie, and their mask bits.
 pub mod element;
-pub mod pieces;

@@ -5,7 +5,7 @@ use mathlib.Core.Bool.{cond}
 use mathlib.Core.List.{List}
 use lib.Dec.{eqb}
 use lib.ListN.{length}
-use Rattle.vector_element.specs.declared.clmul.Half.the-variants.{Low, High}
+use Rattle.vector_product.specs.declared.clmul.Half.the-variants.{Low, High}
 use Rattle.vector_clmul.specs.declared.Multiplier.the-variants.{Vs1, Scalar}
 use Rattle.vector_ghash.specs.declared.GhashMultiplier.the-variants.{YXorX, YAlone}
 use Rattle.vector_registers.specs.declared.settings.Settings.{Settings}

@@ -8,11 +8,11 @@ ghost use Rattle.vector_execute.specs.Execute.{doneKnown, done, executed
 use vector_clmul::Multiplier;
 use vector_clmul::carryless;
 use vector_clmul::scalar_of;
-use vector_element::clmul::Half;
 use vector_ghash::GhashMultiplier;
 use vector_ghash::ghash_vs;
 use vector_ghash::ghash_vv;
 use vector_kind::Kind;
+use vector_product::clmul::Half;
 use vector_refusal::refusal_of;
 use vector_registers::settings::Settings;
 use vector_word::Fields;

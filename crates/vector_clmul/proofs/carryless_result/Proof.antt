@@ -1,7 +1,7 @@
 -- `carryless_result` gives an element's result. Assumes nothing.
 use mathlib.Core.Path.{ap, ap₂, _∙_}
-use Rattle.vector_element.specs.Clmul.{clmul64}
-use Rattle.vector_element.specs.Clmul.{halfOf}
+use Rattle.vector_product.specs.Clmul.{clmul64}
+use Rattle.vector_product.specs.Clmul.{halfOf}
 use Rattle.vector_clmul.specs.Carryless.{carrylessResult}
 use borrow.Author.Needs.{needs}
 use Rattle.vector_clmul.proofs.carryless_result.Statement.{statement}

@@ -2,7 +2,7 @@
 use Prim.Native.Nat.{_/_, _≤_}
 use mathlib.Core.Path.{sym, _∙_}
 use native.Mathlib.Omega.{arith}
-use Rattle.vector_element.proofs.Sew.{sew-facts}
+use Rattle.vector_product.proofs.Sew.{sew-facts}
 use Rattle.vector_clmul.proofs.Steps.{element-written, element-left}
 use borrow.Author.Needs.{needs}
 use Rattle.vector_clmul.proofs.carryless_step.Statement.{statement}

@@ -3,7 +3,7 @@ use Prim.Native.Nat.{ℕ, _/_}
 use mathlib.Core.Path.{ap, _∙_}
 use native.Mathlib.Omega.{arith}
 use Rattle.octets.specs.LittleEndian.{readLe}
-use Rattle.vector_element.proofs.Sew.{sew-facts}
+use Rattle.vector_product.proofs.Sew.{sew-facts}
 use borrow.Author.Needs.{needs}
 use Rattle.vector_clmul.proofs.element.Statement.{statement}
 use Rattle.vector_clmul.proofs.element.Tie as tie

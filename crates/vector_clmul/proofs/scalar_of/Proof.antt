@@ -3,7 +3,7 @@ use Prim.Native.Nat.{_%_, _^_}
 use lib.Dec.{eqb}
 use borrow.Author.Tests.{eq-eqb, ne-eqb}
 use Rattle.vector_word.proofs.Tests.{pick-here, pick-next}
-use Rattle.vector_element.proofs.Sew.{sew-facts}
+use Rattle.vector_product.proofs.Sew.{sew-facts}
 use borrow.Author.Needs.{needs}
 use Rattle.vector_clmul.proofs.scalar_of.Statement.{statement}
 use Rattle.vector_clmul.proofs.scalar_of.Tie as tie

@@ -6,7 +6,7 @@ use Rattle.vector_registers.specs.declared.settings.Settings.{Settings}
 use Rattle.vector_word.specs.declared.Fields.{Fields}
 use Rattle.vector_kind.specs.declared.Kind.{Kind}
 use Rattle.vector_kind.specs.declared.Kind.the-variants.{VclmulVv, VclmulVx, VclmulhVv, VclmulhVx, VghshVv, VghshVs, VgmulVv, VgmulVs}
-use Rattle.vector_element.specs.declared.clmul.Half.the-variants.{Low, High}
+use Rattle.vector_product.specs.declared.clmul.Half.the-variants.{Low, High}
 use Rattle.vector_clmul.specs.declared.Multiplier.the-variants.{Scalar}
 use Rattle.vector_clmul.specs.Carryless.{carryless}
 use Rattle.vector_execute.specs.Execute.{doneKnown}

@@ -5,13 +5,13 @@ use native.Mathlib.Omega.{arith}
 use lib.Arith.{digits-lt}
 use lib.Pow.{high, shr-mod}
 use borrow.Author.Needs.{needs}
-use Rattle.vector_element.specs.declared.clmul.Half.{Half}
-use Rattle.vector_element.specs.Clmul.{halfOf}
+use Rattle.vector_product.specs.declared.clmul.Half.{Half}
+use Rattle.vector_product.specs.Clmul.{halfOf}
 use Rattle.gf128.proofs.Halves.{field-in-low}
-use Rattle.vector_element.proofs.Carryless.{low-in-low}
-use Rattle.vector_element.proofs.Sew.{sew-facts}
-use Rattle.vector_element.proofs.clmul.half_of.Statement.{statement}
-use Rattle.vector_element.proofs.clmul.half_of.Tie as tie
+use Rattle.vector_product.proofs.Carryless.{low-in-low}
+use Rattle.vector_product.proofs.Sew.{sew-facts}
+use Rattle.vector_product.proofs.clmul.half_of.Statement.{statement}
+use Rattle.vector_product.proofs.clmul.half_of.Tie as tie
 
 enum-told : tie.Need-enum-told
 enum-told c = search needs

@@ -2,9 +2,9 @@
 use Prim.Native.Nat.{_-_}
 use native.Mathlib.Omega.{arith}
 use borrow.Author.Needs.{needs}
-use Rattle.vector_element.proofs.Carryless.{cut}
-use Rattle.vector_element.proofs.clmul.low_bits.Statement.{statement}
-use Rattle.vector_element.proofs.clmul.low_bits.Tie as tie
+use Rattle.vector_product.proofs.Carryless.{cut}
+use Rattle.vector_product.proofs.clmul.low_bits.Statement.{statement}
+use Rattle.vector_product.proofs.clmul.low_bits.Tie as tie
 
 sub-result : tie.Need-sub-result
 sub-result c = search needs

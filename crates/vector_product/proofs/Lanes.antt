@@ -16,9 +16,9 @@ use lib.Bits.{bitXor, bitAnd, xor-lt, xor-self, xor-comm, xor-shifted, and-zero-
 use lib.Pow.{pow-pos, pow-add, pow-mono, shl-lt, shl-exact, split, high}
 use Rattle.gf128.proofs.Halves.{top-digit, field-in-low}
 use Rattle.gf128.proofs.Xor.{xor-shl}
-use Rattle.vector_element.specs.Pieces.{piece, clmul8, sum, lanes, lane, evenPieces, evenProducts, LanesApart}
-use Rattle.vector_element.proofs.Bilinear.{enough, steps-most, sum-right, moved-right, power-left, swap}
-use Rattle.vector_element.proofs.FromPieces.{sum-eq, sum-xor, sum-shl}
+use Rattle.vector_product.specs.Pieces.{piece, clmul8, sum, lanes, lane, evenPieces, evenProducts, LanesApart}
+use Rattle.vector_product.proofs.Bilinear.{enough, steps-most, sum-right, moved-right, power-left, swap}
+use Rattle.vector_product.proofs.FromPieces.{sum-eq, sum-xor, sum-shl}
 
 -- ---- numbers in lanes
 

@@ -9,9 +9,9 @@ use lib.Bits.{bitXor, xor-comm, xor-shifted}
 use lib.Pow.{shr-lt, shl-shr, shr-shr}
 use Rattle.gf128.proofs.Halves.{shl-shl, shl-mod, high-xor, halves-moved, moved-lt}
 use Rattle.gf128.proofs.Xor.{xor-assoc, xor-swap4, xor-shl}
-use Rattle.vector_element.specs.Pieces.{piece, clmul8, sum, sumOfProducts, lanes, evenProducts}
-use Rattle.vector_element.proofs.FromPieces.{placed}
-use Rattle.vector_element.proofs.Lanes.{lanes-eq}
+use Rattle.vector_product.specs.Pieces.{piece, clmul8, sum, sumOfProducts, lanes, evenProducts}
+use Rattle.vector_product.proofs.FromPieces.{placed}
+use Rattle.vector_product.proofs.Lanes.{lanes-eq}
 
 -- numbers with even places in one word, those with odd places in another
 interleaved : (n : ℕ) (f : ℕ → ℕ)

@@ -5,7 +5,7 @@ use mathlib.Core.Path.{_≡_}
 use mathlib.Core.List.{List}
 use lib.Bits.{bitXor}
 use lib.ListN.{getD}
-use Rattle.vector_element.specs.Clmul.{clmul, clmul64, lowHalf, highHalf}
+use Rattle.vector_product.specs.Clmul.{clmul, clmul64, lowHalf, highHalf}
 
 -- piece i of a number: the 8 bits from bit 8·i up
 abbrev pub piece : ℕ → ℕ → ℕ

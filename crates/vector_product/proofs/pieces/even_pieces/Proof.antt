@@ -2,9 +2,9 @@
 -- Assumes nothing.
 use mathlib.Core.Path.{_≡_, refl, ap, _∙_}
 use lib.Bits.{bitAnd}
-use Rattle.vector_element.proofs.Lanes.{mask, masked}
-use Rattle.vector_element.proofs.pieces.even_pieces.Statement.{statement}
-use Rattle.vector_element.proofs.pieces.even_pieces.Tie as tie
+use Rattle.vector_product.proofs.Lanes.{mask, masked}
+use Rattle.vector_product.proofs.pieces.even_pieces.Statement.{statement}
+use Rattle.vector_product.proofs.pieces.even_pieces.Tie as tie
 
 returns : tie.Need-returns
 unfolding mask

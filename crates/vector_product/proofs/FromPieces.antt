@@ -8,9 +8,9 @@ use lib.Bits.{bitXor}
 use lib.Pow.{high}
 use Rattle.gf128.proofs.Halves.{shl-shl, top-digit}
 use Rattle.gf128.proofs.Xor.{xor-swap4, xor-shl}
-use Rattle.vector_element.specs.Clmul.{clmul, clmul64, lowHalf, highHalf}
-use Rattle.vector_element.specs.Pieces.{piece, clmul8, sum, sumOfProducts, WholeFromPieces, BothHalves}
-use Rattle.vector_element.proofs.Bilinear.{more-steps, sum-left, moved-left, low-right, zero-left}
+use Rattle.vector_product.specs.Clmul.{clmul, clmul64, lowHalf, highHalf}
+use Rattle.vector_product.specs.Pieces.{piece, clmul8, sum, sumOfProducts, WholeFromPieces, BothHalves}
+use Rattle.vector_product.proofs.Bilinear.{more-steps, sum-left, moved-left, low-right, zero-left}
 
 -- ---- sums
 

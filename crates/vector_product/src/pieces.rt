@@ -3,7 +3,7 @@
 ghost use mathlib.Core.Path.{_≡_};
 ghost use Prim.Native.Nat.{ℕ, _%_, _^_};
 ghost use lib.ListN.{length};
-ghost use Rattle.vector_element.specs.Pieces.{evenPieces, evenProducts, Window};
+ghost use Rattle.vector_product.specs.Pieces.{evenPieces, evenProducts, Window};
 
 // The numbers in a window.
 pub const WINDOW: usize = 16;

@@ -3,7 +3,7 @@ ghost use mathlib.Core.Bool.{true};
 ghost use mathlib.Core.Path.{_≡_};
 ghost use Prim.Native.Nat.{_+_, _*_, _%_, _^_, _<_, _≤_};
 ghost use Rattle.vector_registers.specs.Settings.{sewAllowed};
-ghost use Rattle.vector_element.specs.Clmul.{clmul64, halfOf};
+ghost use Rattle.vector_product.specs.Clmul.{clmul64, halfOf};
 use crate::pieces::WINDOW;
 use crate::pieces::even_products;
 use crate::pieces::fill_window;

@@ -7,10 +7,10 @@ use lib.Bits.{bitXor}
 use lib.ListN.{length, getD, set, length-set}
 use borrow.Author.Count.{below-none}
 use borrow.Author.Needs.{needs}
-use Rattle.vector_element.specs.Pieces.{evenProducts}
-use Rattle.vector_element.proofs.Lanes.{window-zero, window-one, window-moved, window-next, two-more}
-use Rattle.vector_element.proofs.pieces.fill_window.Statement.{statement}
-use Rattle.vector_element.proofs.pieces.fill_window.Tie as tie
+use Rattle.vector_product.specs.Pieces.{evenProducts}
+use Rattle.vector_product.proofs.Lanes.{window-zero, window-one, window-moved, window-next, two-more}
+use Rattle.vector_product.proofs.pieces.fill_window.Statement.{statement}
+use Rattle.vector_product.proofs.pieces.fill_window.Tie as tie
 
 abbrev Inv-loop : tie.InvT-loop
 Inv-loop t₀ a one n₀ t n =

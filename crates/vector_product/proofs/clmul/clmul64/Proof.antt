@@ -8,12 +8,12 @@ use native.Mathlib.Omega.{arith}
 use lib.Bits.{xor-lt}
 use lib.Pow.{pow-pos, shr-le, shr-shr}
 use borrow.Author.Needs.{needs}
-use Rattle.vector_element.specs.Clmul.{clmul64}
-use Rattle.vector_element.specs.Pieces.{sum, sumOfProducts}
-use Rattle.vector_element.proofs.FromPieces.{whole-from-pieces}
-use Rattle.vector_element.proofs.Gathered.{turn}
-use Rattle.vector_element.proofs.clmul.clmul64.Statement.{statement}
-use Rattle.vector_element.proofs.clmul.clmul64.Tie as tie
+use Rattle.vector_product.specs.Clmul.{clmul64}
+use Rattle.vector_product.specs.Pieces.{sum, sumOfProducts}
+use Rattle.vector_product.proofs.FromPieces.{whole-from-pieces}
+use Rattle.vector_product.proofs.Gathered.{turn}
+use Rattle.vector_product.proofs.clmul.clmul64.Statement.{statement}
+use Rattle.vector_product.proofs.clmul.clmul64.Tie as tie
 
 abbrev Inv-loop : tie.InvT-loop
 Inv-loop a b even odd high₀ low₀ rest₀ j₀ high low rest j =

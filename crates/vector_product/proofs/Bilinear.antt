@@ -15,8 +15,8 @@ use lib.Pow.{pow-pos, pow-mono, shl-lt, shr-shr, recompose, mod-mod-pow, field}
 use Rattle.gf128.proofs.Halves.{shl-shl, top-digit}
 use Rattle.gf128.proofs.Places.{digit-ind, digit-xor, xor-digit, digit-lt}
 use Rattle.gf128.proofs.Xor.{xor-assoc, xor-odd, xor-swap4, xor-shl}
-use Rattle.vector_element.specs.Clmul.{clmul, clmul64, lowHalf, highHalf}
-use Rattle.vector_element.proofs.Carryless.{bitOf, bit-lt}
+use Rattle.vector_product.specs.Clmul.{clmul, clmul64, lowHalf, highHalf}
+use Rattle.vector_product.proofs.Carryless.{bitOf, bit-lt}
 
 -- ---- bits past the width are zeros
 

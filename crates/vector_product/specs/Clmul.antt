@@ -2,8 +2,8 @@
 -- Assumes nothing.
 use Prim.Native.Nat.{ℕ, zero, suc, _*_, _/_, _%_, _^_}
 use lib.Bits.{bitXor}
-use Rattle.vector_element.specs.declared.clmul.Half.{Half}
-use Rattle.vector_element.specs.declared.clmul.Half.the-variants.{Low, High}
+use Rattle.vector_product.specs.declared.clmul.Half.{Half}
+use Rattle.vector_product.specs.declared.clmul.Half.the-variants.{Low, High}
 
 -- if bit i of b is 1, the product is xored with a moved up by i, for each i below n
 unfoldable pub clmul : ℕ → ℕ → ℕ → ℕ

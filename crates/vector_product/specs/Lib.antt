@@ -1,0 +1,2 @@
+pub mod Clmul
+pub mod Pieces
