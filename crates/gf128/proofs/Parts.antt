@@ -3,7 +3,7 @@
 -- (whole blocks are hashed as they stand), `pushed-zeros` (places not yet filled are zeros).
 -- Assumes nothing.
 use mathlib.Core.Path.{_≡_, refl, sym, ap, ap₂, _∙_}
-use mathlib.Core.Bool.{Bool, true, false, false≢true, cond, _&&_}
+use mathlib.Core.Bool.{true, cond, _&&_}
 use mathlib.Core.List.{List, [], _∷_, _++_, append-assoc, append-nil}
 use Prim.Native.Nat.{ℕ, zero, suc, _+_, _*_, _/_, _%_, _<_, _≤_}
 use native.Mathlib.Nat.{zero-add, add-zero}
@@ -18,6 +18,7 @@ use Rattle.gf128.specs.Bytes.{blockAt}
 use Rattle.gf128.specs.Hash.{next, over, blocksFrom, blocksOf}
 use Rattle.gf128.specs.Running.{Part, noBytes, allZero, push, pushed, closed}
 use Rattle.octets.proofs.BigEndian.{be-same}
+use Rattle.octets.proofs.Tests.{both}
 use Rattle.gf128.proofs.Hash.{blocks-front, over-next}
 
 abbrev pub part : ℕ → List ℕ → Part
@@ -219,11 +220,6 @@ closed-part h y l = go (ℕ-discrete (length l % 16) 0)
         refl
 
 -- ---- open bytes that are zeros
-
-both : (a b : Bool) → (a && b) ≡ true → (a ≡ true) × (b ≡ true)
-both true true p = (refl, refl)
-both true false p = absurd (false≢true p)
-both false b p = absurd (false≢true p)
 
 pub zeros-all : (l : List ℕ) → allZero l ≡ true → l ≡ replicate (length l) 0
 zeros-all [] z = refl

@@ -1,7 +1,7 @@
 -- The test of a trace holds exactly when its length is a multiple of 24 and all its zero bytes are zero.
 -- Assumes nothing.
 use Prim.Native.Nat.{ℕ, zero, suc, _+_, _-_, _*_, _/_, _%_, _<_}
-use mathlib.Core.Bool.{Bool, true, false, true≢false, _&&_}
+use mathlib.Core.Bool.{true, _&&_}
 use mathlib.Core.List.{List}
 use mathlib.Core.Path.{_≡_, refl, sym, ap, _∙_}
 use native.Mathlib.Nat.{add-zero, zero-add}
@@ -9,12 +9,9 @@ use native.Mathlib.Omega.{arith}
 use borrow.Author.Tests.{eqb-true, eq-eqb}
 use lib.Dec.{eqb}
 use lib.ListN.{length}
+use Rattle.octets.proofs.Tests.{both}
 use Rattle.trace_record.specs.Record.{zeroByteAt}
 use Rattle.trace_form.specs.Form.{zeroBytesFrom, wellFormed, WellFormed, TestIsExact}
-
-both : (a b : Bool) → (a && b) ≡ true → (a ≡ true) × (b ≡ true)
-both true b h = (refl, h)
-both false b h = absurd (true≢false (sym h))
 
 -- from a place on
 zeros-tell : (n : ℕ) (trace : List ℕ) (at : ℕ) → zeroBytesFrom n trace at ≡ true → (i : ℕ) → i < n → zeroByteAt trace (at + 24 * i) ≡ 0
