@@ -229,6 +229,7 @@ const struct subcommand replay_command = {
     "    --zero         every register is zero at first; there is no REGISTERS then\n\n"
     "A trace with a torn record, or with a zero byte that is not zero, is refused (14) with the place, and nothing\n"
     "runs or is written. A VLEN or a length of REGISTERS that is not allowed is noted: every call then answers 1.\n"
-    "A difference is status 1, a refused trace status 2.\n",
+    "A difference is status 1, a refused trace status 2. A trace that a version before 0.4.0 recorded may differ at\n"
+    "a .vs word with vd < vs2 < vd + LMUL, which was done then and is refused (7) now.\n",
     replay,
 };

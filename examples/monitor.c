@@ -73,7 +73,7 @@ static const char *meaning_of(uint32_t number)
     case RVGHASH_SEW_NOT_32: return "a GHASH word and SEW is not 32";
     case RVGHASH_NOT_MULTIPLE_OF_4: return "a GHASH word and vl or vstart is no multiple of 4";
     case RVGHASH_BAD_GROUP: return "a register group's number is no multiple of LMUL";
-    case RVGHASH_KEY_OVERLAP: return "a .vs word and vs2 equals vd";
+    case RVGHASH_KEY_OVERLAP: return "a .vs word and vd <= vs2 < vd + LMUL";
     case RVGHASH_MASK_OVERLAP: return "vm is 0 and a register group is register 0";
     default: return "unknown number";
     }

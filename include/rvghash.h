@@ -22,9 +22,9 @@
 
 /* The version, as the file VERSION has it. */
 #define RVGHASH_VERSION_MAJOR 0
-#define RVGHASH_VERSION_MINOR 3
+#define RVGHASH_VERSION_MINOR 4
 #define RVGHASH_VERSION_PATCH 0
-#define RVGHASH_VERSION_STRING "0.3.0"
+#define RVGHASH_VERSION_STRING "0.4.0"
 
 #define RVGHASH_BLOCK_BYTES 16                             /* of a key, a block, a hash */
 #define RVGHASH_LIMIT_BYTES 1048576                        /* the most that A may have, and C */
@@ -53,7 +53,7 @@ enum rvghash_number {
     RVGHASH_SEW_NOT_32 = 4,        /* a GHASH word and SEW is not 32 */
     RVGHASH_NOT_MULTIPLE_OF_4 = 5, /* a GHASH word and vl or vstart no multiple of 4 */
     RVGHASH_BAD_GROUP = 6,         /* a register group's number is no multiple of LMUL, or (group question) over 31 */
-    RVGHASH_KEY_OVERLAP = 7,       /* a .vs word and vs2 equals vd */
+    RVGHASH_KEY_OVERLAP = 7,       /* a .vs word and vd <= vs2 < vd + LMUL */
     RVGHASH_MASK_OVERLAP = 8,      /* vm is 0 and vd, vs2 or (.vv) vs1 is register 0 */
     RVGHASH_NOT_16_BYTES = 9,      /* a key or block not 16 bytes long */
     RVGHASH_BAD_RUNNING = 10,      /* running hash in the wrong phase, or malformed */
@@ -168,6 +168,8 @@ uint32_t rvghash_put_record(uint32_t word, uint32_t sew, uint32_t lmul, uint32_t
  * Refused (14; the trace's length is no multiple of 24, or a zero byte in it is not zero): nothing ran, the file is as
  * before, and *index is 0.
  * A VLEN or a file length that is not allowed is no refusal here: each call then answers 1, and a record may say so.
+ * A trace that a version before 0.4.0 recorded may differ at a .vs word whose vs2 lies in vd's group after vd itself:
+ * it was done then, and is refused with 7 now.
  */
 RVGHASH_MUST_USE
 uint32_t rvghash_replay(uint32_t vlen, uint8_t *file, size_t file_len, const uint8_t *trace, size_t trace_len,

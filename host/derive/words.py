@@ -2,7 +2,7 @@
 """Derive the register files that words leave, by a model of document 01 that shares nothing with the library.
 
 Before each call byte i of the file is (7 i + 3) mod 251, a pattern that the program makes again. Each row below gives the
-call and the number that document 01 answers; the model gives the bytes, where that number is 0.
+call and the number that document 01 answers, with document 02's Ask 4; the model gives the bytes, where that number is 0.
 
 Usage: words.py [-o OUTPUT]
 OUTPUT is by default the file that the program known_words reads; SHA256SUMS has its checksum. It has a record a row, of
@@ -146,11 +146,14 @@ def numbers_of_words():
     at = (128, 32, 1, 4, 0)
     for bits in (0, 0xFFFFFFFF, VV.bits ^ 1 << 27, VV.bits ^ 1 << 12, GHASH[0].bits ^ 1, GHASH[0].bits ^ 1 << 25, GHASH[2].bits ^ 1 << 15):
         yield bits, *at, 2
-    for name in ("vghsh.vs", "vgmul.vs"):
-        yield Word(name, vs2=8), *at, 7
-        yield Word(name, vs2=9), *at, 0
-    for name in ("vghsh.vv", "vgmul.vv"):
-        yield Word(name, vs2=8), *at, 0
+    for lmul in (1, 2, 4, 8):
+        whole = (128, 32, lmul, 4 * lmul, 0)
+        for name in ("vghsh.vs", "vgmul.vs"):
+            # Before vd's group, its first register, its last one (at LMUL 1 the same), and after it.
+            for vs2, number in {7: 0, 8: 7, 7 + lmul: 7, 8 + lmul: 0}.items():
+                yield Word(name, vs2=vs2), *whole, number
+        for name in ("vghsh.vv", "vgmul.vv"):
+            yield Word(name, vs2=8), *whole, 0
     for name in CARRY_LESS:
         yield Word(name, vd=0, vm=0), *at, 8
         yield Word(name, vd=0), *at, 0
@@ -166,6 +169,7 @@ def smallest_of_several():
     yield GHASH[0], 128, 16, 1, 5, 0, 4
     yield Word("vghsh.vv", vd=31), 128, 32, 2, 5, 0, 5
     yield Word("vgmul.vs", vd=31, vs2=31), 128, 32, 2, 4, 0, 6
+    yield Word("vghsh.vs", vs2=9, vs1=25), 128, 32, 2, 8, 0, 6
     yield Word("vclmul.vv", vd=31, vs2=0, vm=0), 128, 32, 2, 4, 0, 6
 
 
@@ -194,8 +198,8 @@ def ghash_words():
             yield word, vlen, 32, lmul, lmul * vlen // 32, 4, 0
     yield Word("vghsh.vv", vd=16, vs2=16, vs1=16), 128, 32, 4, 16, 0, 0
     yield Word("vgmul.vv", vd=16, vs2=16), 128, 32, 4, 16, 0, 0
-    yield Word("vghsh.vs", vd=16, vs2=17, vs1=16), 128, 32, 4, 16, 0, 0
-    yield Word("vgmul.vs", vd=16, vs2=18), 128, 32, 4, 16, 0, 0
+    yield Word("vghsh.vs", vd=16, vs2=15, vs1=16), 128, 32, 4, 16, 0, 0
+    yield Word("vgmul.vs", vd=16, vs2=20), 128, 32, 4, 16, 0, 0
 
 
 def register_groups():

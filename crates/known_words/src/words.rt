@@ -135,8 +135,8 @@ fn refusals(s: &[u8]) {
     line(b"vl and vstart of a GHASH word", 1, 36, s);
     line(b"Register 31 with LMUL 1 and 2", 2, 8, s);
     line(b"VLEN, SEW, LMUL and the length of the file", 3, 28, s);
-    line(b"Numbers 2, 7 and 8", 4, 29, s);
-    line(b"The smallest of several numbers", 5, 7, s);
+    line(b"Numbers 2, 7 and 8", 4, 61, s);
+    line(b"The smallest of several numbers", 5, 8, s);
 }
 
 fn values(s: &[u8]) {

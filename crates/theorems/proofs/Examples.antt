@@ -43,8 +43,9 @@ use Rattle.vector_ghash.specs.declared.GhashMultiplier.{GhashMultiplier}
 use Rattle.vector_ghash.specs.declared.GhashMultiplier.the-variants.{YXorX, YAlone}
 use Rattle.vector_ghash.specs.GhashWords.{group, multiplierOf, vvStep, vsStep, ghashVv, ghashVs}
 use Rattle.vector_execute.specs.Execute.{doneKnown, done, executed, vstartAfter}
-use Rattle.theorems.specs.Examples.{Example, call, known, word, encodes, decodes, lists, lists-as, lists-into, reads, question, part, times, hash, backward, out, written, state, feeds, finishes, degree, degreeOfBytes, back, pieces, sums, four, execution, running, file, table, Holds, AllHold, ExamplesHold}
+use Rattle.theorems.specs.Examples.{Example, call, known, word, encodes, decodes, lists, lists-as, lists-into, reads, question, part, times, hash, backward, out, written, state, feeds, finishes, degree, degreeOfBytes, back, pieces, sums, four, execution, running, file, table, Holds, ExamplesHold}
 use Rattle.theorems.proofs.Marked.{same, numbersOf, goesBack, same-at, is-word, goes-back}
+use Rattle.theorems.proofs.Rows.{allRight, all-show}
 
 -- ---- a call that computes fast: the executor's definition over the product, which is then the quick one
 
@@ -256,17 +257,6 @@ shows (execution w s scalar before changed vstart) t =
       eqb→eq (vstartAfter (length (file before)) w s) vstart (and-right a b t),
     )
 
--- ---- the table
-
-allRight : List Example → Bool
-allRight [] = true
-allRight (e ∷ es) = right e && allRight es
-
-all-show : (es : List Example) → T (allRight es) → AllHold es
-unfolding allRight
-all-show [] t = tt
-all-show (e ∷ es) t = (shows e (and-left (right e) (allRight es) t), all-show es (and-right (right e) (allRight es) t))
-
 pub examples : ExamplesHold
 unfolding table allRight right same finished numbersOf readBy text fieldsIn goesBack decode refusalOf refusalOfKnown groupRefusal numberOf file quickXOf quickSteps quickProduct beAt beBytes highest degreeOf coeffOf executedBy doneBy ghashBy steps clmul clmul64 clmul8 sum readLe writeLe maskBit carrylessResult carrylessStep carryless
-examples = record { rows = refl; all = all-show table tt }
+examples = record { rows = refl; all = all-show Holds right shows table tt }

@@ -101,7 +101,7 @@ none-applies fileLength word s {k} {f} known a =
     (pick-next (applies4 k s) 4 _ (a .not4)
     (pick-next (applies5 k s) 5 _ (a .not5)
     (pick-next (applies6 k f s) 6 _ (a .not6)
-    (pick-next (applies7 k f) 7 _ (a .not7)
+    (pick-next (applies7 k f s) 7 _ (a .not7)
     (pick-next (applies8 k f) 8 0 (a .not8) refl)))))
     ∙ ap (λ (w : Word). refusalOfWord w s) (sym known)))
 

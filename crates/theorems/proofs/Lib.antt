@@ -5,8 +5,10 @@ pub mod Execution
 pub mod Fold
 pub mod Groups
 pub mod Marked
+pub mod Overlap
 pub mod Places
 pub mod Pseudocode
 pub mod Registers
 pub mod Reversal
+pub mod Rows
 pub mod Witnesses

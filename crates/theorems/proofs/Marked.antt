@@ -23,7 +23,8 @@ use Rattle.vector_word.specs.declared.Word.{Word}
 use Rattle.vector_word.specs.declared.Word.the-variants.{Known, Unknown}
 use Rattle.vector_word.specs.Word.{decode, kinds}
 use Rattle.vector_product.specs.Clmul.{clmul, clmul64, lowHalf, highHalf}
-use Rattle.theorems.specs.Marked.{Case, carryless, times, back, word, hash, table, Holds, AllHold, MarkedCasesHold}
+use Rattle.theorems.specs.Marked.{Case, carryless, times, back, word, hash, table, Holds, MarkedCasesHold}
+use Rattle.theorems.proofs.Rows.{allRight, all-show}
 
 -- ---- the test: the numbers that the written rules give are the numbers that the case says
 
@@ -112,17 +113,6 @@ shows (back h x y1 number block) t = goes-back h x y1 number block (eqb h 0) (eq
 shows (word w kind vm vd vs2 vs1) t = is-word (decode w) kind vm vd vs2 vs1 t
 shows (hash h a c block) t = sym (quick-ghash h a c) ∙ same-at (quickGhash h a c ∷ []) (block ∷ []) t 0
 
--- ---- the table
-
-allRight : List Case → Bool
-allRight [] = true
-allRight (c ∷ cs) = right c && allRight cs
-
-all-show : (cs : List Case) → T (allRight cs) → AllHold cs
-unfolding allRight
-all-show [] t = tt
-all-show (c ∷ cs) t = (shows c (and-left (right c) (allRight cs) t), all-show cs (and-right (right c) (allRight cs) t))
-
 pub marked : MarkedCasesHold
 unfolding table allRight right goesBack numbersOf same quickXOf quickSteps quickProduct quickOver quickGhash beAt blocksFrom blocksOf lengthBlock messageOf decode clmul clmul64
-marked = record { rows = refl; all = all-show table tt }
+marked = record { rows = refl; all = all-show Holds right shows table tt }

@@ -27,6 +27,7 @@ use Rattle.vector_reader.specs.Reading.{Reads}
 use Rattle.vector_refusal.specs.Refusal.{refusalOf, refusalOfKnown}
 use Rattle.vector_product.specs.Pieces.{clmul8, sumOfProducts, evenProducts}
 use Rattle.vector_execute.specs.Execute.{executed, vstartAfter}
+use Rattle.theorems.specs.Rows.{AllHold}
 
 -- VLEN, SEW, LMUL, vl and vstart
 abbrev pub settings : ℕ → ℕ → ℕ → ℕ → ℕ → Settings
@@ -372,13 +373,57 @@ table =
     ∷ known VghshVs 1 4 8 13 (settings 128 32 2 4 0) 6
     ∷ known VgmulVv 1 4 8 17 (settings 128 32 2 4 0) 0
     ∷ known VgmulVs 1 4 8 17 (settings 128 32 2 4 0) 0
-    -- 7: a .vs word and vs2 equals vd
-    ∷ known VghshVs 1 4 4 12 (settings 128 32 1 4 0) 7
-    ∷ known VghshVs 1 4 5 12 (settings 128 32 1 4 0) 0
-    ∷ known VgmulVs 1 4 4 17 (settings 128 32 1 4 0) 7
-    ∷ known VgmulVs 1 4 5 17 (settings 128 32 1 4 0) 0
-    ∷ known VghshVv 1 4 4 12 (settings 128 32 1 4 0) 0
-    ∷ known VgmulVv 1 4 4 17 (settings 128 32 1 4 0) 0
+    -- 7: a .vs word and vd ≤ vs2 < vd + LMUL. The register before the group, its first, its last, and the register after it
+    ∷ known VghshVs 1 8 7 24 (settings 128 32 1 4 0) 0
+    ∷ known VghshVs 1 8 8 24 (settings 128 32 1 4 0) 7
+    ∷ known VghshVs 1 8 9 24 (settings 128 32 1 4 0) 0
+    ∷ known VghshVs 1 8 7 24 (settings 128 32 2 4 0) 0
+    ∷ known VghshVs 1 8 8 24 (settings 128 32 2 4 0) 7
+    ∷ known VghshVs 1 8 9 24 (settings 128 32 2 4 0) 7
+    ∷ known VghshVs 1 8 10 24 (settings 128 32 2 4 0) 0
+    ∷ known VghshVs 1 8 7 24 (settings 128 32 4 4 0) 0
+    ∷ known VghshVs 1 8 8 24 (settings 128 32 4 4 0) 7
+    ∷ known VghshVs 1 8 11 24 (settings 128 32 4 4 0) 7
+    ∷ known VghshVs 1 8 12 24 (settings 128 32 4 4 0) 0
+    ∷ known VghshVs 1 8 7 24 (settings 128 32 8 4 0) 0
+    ∷ known VghshVs 1 8 8 24 (settings 128 32 8 4 0) 7
+    ∷ known VghshVs 1 8 15 24 (settings 128 32 8 4 0) 7
+    ∷ known VghshVs 1 8 16 24 (settings 128 32 8 4 0) 0
+    ∷ known VgmulVs 1 8 7 17 (settings 128 32 1 4 0) 0
+    ∷ known VgmulVs 1 8 8 17 (settings 128 32 1 4 0) 7
+    ∷ known VgmulVs 1 8 9 17 (settings 128 32 1 4 0) 0
+    ∷ known VgmulVs 1 8 7 17 (settings 128 32 2 4 0) 0
+    ∷ known VgmulVs 1 8 8 17 (settings 128 32 2 4 0) 7
+    ∷ known VgmulVs 1 8 9 17 (settings 128 32 2 4 0) 7
+    ∷ known VgmulVs 1 8 10 17 (settings 128 32 2 4 0) 0
+    ∷ known VgmulVs 1 8 7 17 (settings 128 32 4 4 0) 0
+    ∷ known VgmulVs 1 8 8 17 (settings 128 32 4 4 0) 7
+    ∷ known VgmulVs 1 8 11 17 (settings 128 32 4 4 0) 7
+    ∷ known VgmulVs 1 8 12 17 (settings 128 32 4 4 0) 0
+    ∷ known VgmulVs 1 8 7 17 (settings 128 32 8 4 0) 0
+    ∷ known VgmulVs 1 8 8 17 (settings 128 32 8 4 0) 7
+    ∷ known VgmulVs 1 8 15 17 (settings 128 32 8 4 0) 7
+    ∷ known VgmulVs 1 8 16 17 (settings 128 32 8 4 0) 0
+    -- 7: a register inside the group, register 31, a group at register 0, a larger VLEN, and vl 0
+    ∷ known VghshVs 1 8 10 24 (settings 128 32 4 4 0) 7
+    ∷ known VgmulVs 1 24 31 17 (settings 128 32 8 4 0) 7
+    ∷ known VgmulVs 1 24 23 17 (settings 128 32 8 4 0) 0
+    ∷ known VghshVs 1 0 1 24 (settings 128 32 2 4 0) 7
+    ∷ known VghshVs 1 0 31 24 (settings 128 32 2 4 0) 0
+    ∷ known VghshVs 1 8 9 24 (settings 512 32 2 4 0) 7
+    ∷ known VghshVs 1 8 10 24 (settings 512 32 2 4 0) 0
+    ∷ known VgmulVs 1 8 9 17 (settings 128 32 2 0 0) 7
+    -- 7: the same by the word, vgmul.vs v4, v5 and vgmul.vs v4, v6
+    ∷ call 512 0xA658A277 (settings 128 32 2 8 0) 7
+    ∷ call 512 0xA668A277 (settings 128 32 2 8 0) 0
+    -- 7: not for vs1, nor in other words
+    ∷ known VghshVs 1 8 4 8 (settings 128 32 4 4 0) 0
+    ∷ known VghshVv 1 8 8 24 (settings 128 32 1 4 0) 0
+    ∷ known VghshVv 1 8 8 24 (settings 128 32 4 4 0) 0
+    ∷ known VgmulVv 1 8 8 17 (settings 128 32 1 4 0) 0
+    ∷ known VgmulVv 1 8 8 17 (settings 128 32 4 4 0) 0
+    ∷ known VclmulVv 1 8 8 8 (settings 128 32 4 4 0) 0
+    ∷ known VclmulhVx 1 8 8 8 (settings 128 32 4 4 0) 0
     -- 8: vm is 0 and vd, vs2 or (.vv) vs1 is register 0
     ∷ known VclmulVv 0 0 8 12 (settings 128 32 1 4 0) 8
     ∷ known VclmulVv 0 4 0 12 (settings 128 32 1 4 0) 8
@@ -407,6 +452,7 @@ table =
     ∷ call 512 0xB2862277 (settings 128 16 1 5 0) 4
     ∷ known VghshVv 1 5 8 12 (settings 128 32 2 5 0) 5
     ∷ known VgmulVs 1 5 5 17 (settings 128 32 2 4 0) 6
+    ∷ known VghshVs 1 8 9 25 (settings 128 32 2 4 0) 6
     ∷ known VclmulVv 0 0 9 12 (settings 128 32 2 4 0) 6
     -- the group question: 1 as above, 3 if LMUL isn't allowed, 6 if the register is over 31 or no multiple of LMUL, else 0
     ∷ question 128 512 1 31 0
@@ -591,6 +637,14 @@ table =
     ((4, 0x80000000000000000000000000000001) ∷ (5, 0x00000000000000000000000000000003) ∷ (8, 0x40000000000000000000000000000000) ∷
     (9, 0x20000000000000000000000000000000) ∷ [])
     ((4, 0xA1000000000000000000000000000000) ∷ (5, 0xE1000000000000000000000000000001) ∷ []) 0
+    -- vgmul.vs v4, v6 on two groups: the key stands after vd's group
+    ∷ execution 0xA668A277 (settings 128 32 2 8 0) 0
+    ((4, 0x80000000000000000000000000000001) ∷ (5, 0x00000000000000000000000000000003) ∷ (6, 0x40000000000000000000000000000000) ∷ [])
+    ((4, 0xA1000000000000000000000000000000) ∷ (5, 0xE1000000000000000000000000000001) ∷ []) 0
+    -- vgmul.vs v4, v5: refused with 7, and vstart stays
+    ∷ execution 0xA658A277 (settings 128 32 2 8 4) 0
+    ((4, 0x80000000000000000000000000000001) ∷ (5, 0x40000000000000000000000000000000) ∷ [])
+    [] 4
     -- vstart at vl: nothing is written, and vstart becomes 0
     ∷ execution 0xA288A277 (settings 128 32 2 4 4) 0
     ((4, 0x80000000000000000000000000000001) ∷ (8, 0x40000000000000000000000000000000) ∷ [])
@@ -625,12 +679,7 @@ table =
     ∷ four 0x0080000000000000 0xFF 0x7F80000000000000
     ∷ []
 
--- every example of a list holds
-abbrev pub AllHold : List Example → Type 0
-AllHold [] = Unit {0}
-AllHold (e ∷ es) = Holds e × AllHold es
-
 -- the statement: the rows are so many, and all of them hold
 pub record ExamplesHold : Type 0 where
-  pub rows : length table ≡ 410
-  pub all : AllHold table
+  pub rows : length table ≡ 454
+  pub all : AllHold Holds table

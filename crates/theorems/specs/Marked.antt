@@ -13,6 +13,7 @@ use Rattle.vector_kind.specs.declared.Kind.the-variants.{VghshVv}
 use Rattle.vector_word.specs.declared.Word.the-variants.{Known}
 use Rattle.vector_word.specs.Word.{decode}
 use Rattle.vector_product.specs.Clmul.{clmul64, lowHalf, highHalf}
+use Rattle.theorems.specs.Rows.{AllHold}
 
 -- a block as document 01 writes it: its first bytes, zero bytes up to 16, its last bytes
 infix 50 _…_
@@ -71,12 +72,7 @@ table =
     ∷ hash ((0x80 ∷ []) … []) [] (0x01 ∷ []) ((0x01 ∷ []) … (0x08 ∷ []))
     ∷ []
 
--- every case of a list holds
-abbrev pub AllHold : List Case → Type 0
-AllHold [] = Unit {0}
-AllHold (c ∷ cs) = Holds c × AllHold cs
-
 -- the statement: there are fourteen cases, K1 to K14, and all of them hold
 pub record MarkedCasesHold : Type 0 where
   pub rows : length table ≡ 14
-  pub all : AllHold table
+  pub all : AllHold Holds table

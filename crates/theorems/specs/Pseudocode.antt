@@ -88,7 +88,7 @@ abbrev pub «zext_or_truncate_to_sew» : Settings → ℕ → ℕ
 
 -- ---- vclmul and vclmulh: source 002
 -- Document 01: SEW is 8, 16, 32 or 64, else the word is refused. The name clmul is the source's: a product of `width` bits, where
--- vector_element's clmul is the whole product.
+-- vector_product's clmul is the whole product.
 
 -- function clmul(x, y, width) = {
 --   let result : bits(width) = zeros();

@@ -1,6 +1,6 @@
 -- The examples hold (`examples`): one test of an example, computed over the table, and one law that turns the test into what the example
 -- says. Assumes nothing.
-use mathlib.Core.Bool.{Bool, true, _&&_}
+use mathlib.Core.Bool.{Bool, _&&_}
 use mathlib.Core.List.{List, [], _∷_}
 use mathlib.Core.Path.{refl}
 use Prim.Native.Nat.{ℕ}
@@ -24,7 +24,8 @@ use Rattle.trace_replay.specs.Replay.{replayFrom, replayed, numberOf, indexOf}
 use Rattle.theorems.specs.Examples.{file}
 use Rattle.theorems.proofs.Marked.{same, same-at}
 use Rattle.theorems.proofs.Examples.{same-list}
-use Rattle.trace_examples.specs.Examples.{Example, writes, gives, replays, numbered, givenBytes, table, Holds, AllHold, ExamplesHold}
+use Rattle.trace_examples.specs.Examples.{Example, writes, gives, replays, numbered, givenBytes, table, Holds, ExamplesHold}
+use Rattle.theorems.proofs.Rows.{allRight, all-show}
 
 -- a replay's number and index in a row
 abbrev numbersOf : Replayed → List ℕ
@@ -55,17 +56,6 @@ shows (replays vlen before trace number index after) t =
     let e = same-at (numbersOf (o .answer)) (number ∷ index ∷ []) (and-left a b t) in
     (e 0, e 1, same-list (o .file) after (and-right a b t))
 
--- ---- the table
-
-allRight : List Example → Bool
-allRight [] = true
-allRight (e ∷ es) = right e && allRight es
-
-all-show : (es : List Example) → T (allRight es) → AllHold es
-unfolding allRight
-all-show [] t = tt
-all-show (e ∷ es) t = (shows e (and-left (right e) (allRight es) t), all-show es (and-right (right e) (allRight es) t))
-
 pub examples : ExamplesHold
 unfolding table allRight right same file decode refusalOf refusalOfKnown beBytes readLe writeLe leBytes steps clmul clmul64 maskBit carrylessResult carrylessStep carryless executed recordAt recordsFrom recordBytes zeroByteAt zeroBytesFrom wellFormed replayFrom replayed
-examples = record { rows = refl; all = all-show table tt }
+examples = record { rows = refl; all = all-show Holds right shows table tt }

@@ -6,6 +6,7 @@ use mathlib.Core.Path.{_≡_}
 use mathlib.Core.List.{List, [], _∷_, _++_}
 use lib.ListN.{length, set, replicate, take}
 use Rattle.theorems.specs.Examples.{file}
+use Rattle.theorems.specs.Rows.{AllHold}
 use Rattle.trace_record.specs.declared.Record.{Record}
 use Rattle.trace_record.specs.Record.{recordBytes, writeNumber, writtenInto}
 use Rattle.trace_reader.specs.declared.Next.{Next}
@@ -36,6 +37,10 @@ line word sew answer vl vstart scalar =
 -- vclmul.vx v4, v8, x31 on two bytes, recorded with an answer
 abbrev pub byScalar : (answer vstart scalar : ℕ) → List ℕ
 byScalar answer vstart scalar = line 0x328FE257 8 answer 2 vstart scalar
+
+-- vgmul.vs v4, v5 at LMUL 2, whose key is in vd's group, recorded with an answer
+abbrev pub byKeyInGroup : (answer : ℕ) → List ℕ
+byKeyInGroup answer = recordBytes (record { word = 0xA658A277; sew = 32; lmul = 2; answer = answer; vl = 8; vstart = 0; scalar = 0 })
 
 -- a file whose v8 starts with 03 05, and its v4
 abbrev pub withV4 : ℕ → List ℕ
@@ -91,6 +96,9 @@ table =
     ∷ replays 128 (withV4 0x11111111111111111111111111111111) (byScalar 0 0 3 ++ byScalar 1 0 7) 256 1 (withV4 0x050F1111111111111111111111111111)
     ∷ replays 128 (withV4 0x11111111111111111111111111111111) (byScalar 0 0 3 ++ (byScalar 0 1 7 ++ byScalar 255 0 1)) 256 2
     (withV4 0x051B1111111111111111111111111111)
+    -- 7 as document 02's Ask 4 has it; in a trace that was recorded before it the answer is 0
+    ∷ replays 128 (withV4 0x11111111111111111111111111111111) (byKeyInGroup 7) 0 1 (withV4 0x11111111111111111111111111111111)
+    ∷ replays 128 (withV4 0x11111111111111111111111111111111) (byScalar 0 0 3 ++ byKeyInGroup 0) 256 1 (withV4 0x050F1111111111111111111111111111)
     -- 14: the length is no multiple of 24, or a zero byte is not zero, in the last record too
     ∷ replays 128 (withV4 0x11111111111111111111111111111111) (take 23 (byScalar 0 0 3)) 14 0 (withV4 0x11111111111111111111111111111111)
     ∷ replays 128 (withV4 0x11111111111111111111111111111111) (byScalar 0 0 3 ++ (0 ∷ [])) 14 0 (withV4 0x11111111111111111111111111111111)
@@ -104,12 +112,7 @@ table =
     ∷ replays 128 [] (byScalar 0 0 3) 256 0 []
     ∷ []
 
--- every example of a list holds
-abbrev pub AllHold : List Example → Type 0
-AllHold [] = Unit {0}
-AllHold (e ∷ es) = Holds e × AllHold es
-
 -- the statement: the rows are so many, and all of them hold
 pub record ExamplesHold : Type 0 where
-  pub rows : length table ≡ 34
-  pub all : AllHold table
+  pub rows : length table ≡ 36
+  pub all : AllHold Holds table

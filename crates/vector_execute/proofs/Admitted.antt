@@ -26,7 +26,7 @@ pub record Admitted (fileLength : ℕ) (k : Kind) (f : Fields) (s : Settings) : 
   pub not4 : applies4 k s ≡ false
   pub not5 : applies5 k s ≡ false
   pub not6 : applies6 k f s ≡ false
-  pub not7 : applies7 k f ≡ false
+  pub not7 : applies7 k f s ≡ false
   pub not8 : applies8 k f ≡ false
 
 known : (fileLength : ℕ) (k : Kind) (f : Fields) (s : Settings)
@@ -37,7 +37,7 @@ known fileLength k f s h1 e =
     let p4 = passed (applies4 k s) 4 _ (zero-lt-suc 3) (p3 .1) in
     let p5 = passed (applies5 k s) 5 _ (zero-lt-suc 4) (p4 .1) in
     let p6 = passed (applies6 k f s) 6 _ (zero-lt-suc 5) (p5 .1) in
-    let p7 = passed (applies7 k f) 7 _ (zero-lt-suc 6) (p6 .1) in
+    let p7 = passed (applies7 k f s) 7 _ (zero-lt-suc 6) (p6 .1) in
     let p8 = passed (applies8 k f) 8 0 (zero-lt-suc 7) (p7 .1) in
     record { not1 = h1; not3 = p3 .0; not4 = p4 .0; not5 = p5 .0; not6 = p6 .0; not7 = p7 .0; not8 = p8 .0 }
 

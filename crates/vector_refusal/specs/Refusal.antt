@@ -5,7 +5,7 @@ use mathlib.Core.Bool.{Bool, cond, not, _&&_, _||_}
 use mathlib.Core.List.{List, [], _∷_}
 use lib.Dec.{eqb}
 use Rattle.vector_registers.specs.declared.settings.Settings.{Settings}
-use Rattle.vector_registers.specs.Settings.{misaligned, applies1, applies3}
+use Rattle.vector_registers.specs.Settings.{misaligned, occupies, applies1, applies3}
 use Rattle.vector_kind.specs.declared.Kind.{Kind}
 use Rattle.vector_word.specs.declared.Fields.{Fields}
 use Rattle.vector_word.specs.declared.Word.{Word}
@@ -29,9 +29,9 @@ applies6 k f s =
     misaligned (s .lmul) (f .vd)
     || ((not (isVs k) && misaligned (s .lmul) (f .vs2)) || (hasVs1Group k && misaligned (s .lmul) (f .vs1)))
 
--- a .vs word and vs2 equals vd
-abbrev pub applies7 : Kind → Fields → Bool
-applies7 k f = isVs k && eqb (f .vs2) (f .vd)
+-- a .vs word and vd ≤ vs2 < vd + LMUL (document 02, Ask 4)
+abbrev pub applies7 : Kind → Fields → Settings → Bool
+applies7 k f s = isVs k && occupies (s .lmul) (f .vd) (f .vs2)
 
 -- vm is 0 and vd, vs2 or (.vv) vs1 is register 0
 abbrev pub applies8 : Kind → Fields → Bool
@@ -51,7 +51,7 @@ numbersOfKnown k f s =
     ∷ (applies4 k s, 4)
     ∷ (applies5 k s, 5)
     ∷ (applies6 k f s, 6)
-    ∷ (applies7 k f, 7)
+    ∷ (applies7 k f s, 7)
     ∷ (applies8 k f, 8)
     ∷ []
 

@@ -13,6 +13,7 @@ use vector_registers::settings::Settings;
 use vector_registers::settings::applies_1;
 use vector_registers::settings::applies_3;
 use vector_registers::settings::misaligned;
+use vector_registers::settings::occupies;
 use vector_word::Fields;
 use vector_word::Word;
 use vector_word::decode;
@@ -68,12 +69,12 @@ fn vs2_misaligned(k: Kind, f: Fields, s: Settings) -> bool
     false
 }
 
-// A .vs word and vs2 equals vd.
-fn applies_7(k: Kind, f: Fields) -> bool
-    ensures { λ r. ⌜ r ≡ applies7 k f ⌝ }
+// A .vs word and vd ≤ vs2 < vd + LMUL.
+fn applies_7(k: Kind, f: Fields, s: Settings) -> bool
+    ensures { λ r. ⌜ r ≡ applies7 k f s ⌝ }
 {
     if is_vs(k) {
-        return f.vs2 == f.vd;
+        return occupies(s.lmul, f.vd, f.vs2);
     }
     false
 }
@@ -115,7 +116,7 @@ fn refusal_of_known(k: Kind, f: Fields, s: Settings) -> u32
     if applies_6(k, f, s) {
         return 6;
     }
-    if applies_7(k, f) {
+    if applies_7(k, f, s) {
         return 7;
     }
     if applies_8(k, f) {

@@ -1,8 +1,8 @@
 -- Document 01, "Registers and settings", and the refusal numbers 1 and 3.
 -- Assumes nothing.
-use Prim.Native.Nat.{ℕ, _*_, _/_, _%_}
-use mathlib.Core.Bool.{Bool, not, _||_}
-use lib.Dec.{eqb, ltb}
+use Prim.Native.Nat.{ℕ, _+_, _*_, _/_, _%_}
+use mathlib.Core.Bool.{Bool, not, _&&_, _||_}
+use lib.Dec.{eqb, leb, ltb}
 use Rattle.vector_registers.specs.declared.settings.Settings.{Settings}
 
 -- ---- what is allowed, and what follows from it
@@ -45,6 +45,10 @@ groupLength vlen lmul = groupRegisters lmul * registerBytes vlen
 -- the group's number is no multiple of LMUL
 abbrev pub misaligned : ℕ → ℕ → Bool
 misaligned lmul register = not (eqb (register % groupRegisters lmul) 0)
+
+-- the registers that a group occupies: its first, and those after it, as many as a group has. Whether a register is one of them
+abbrev pub occupies : ℕ → ℕ → ℕ → Bool
+occupies lmul first register = leb first register && ltb register (first + groupRegisters lmul)
 
 -- ---- the numbers that no word is needed for, in the table's words
 

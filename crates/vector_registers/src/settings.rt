@@ -1,6 +1,6 @@
 // The settings of a call: what is allowed, and what follows from it.
 ghost use mathlib.Core.Path.{_≡_};
-ghost use Rattle.vector_registers.specs.Settings.{oneOf, vlenAllowed, sewAllowed, lmulAllowed, groupRegisters, timesLmul, vlmax, registerBytes, fileBytes, groupLength, misaligned, applies1, applies3};
+ghost use Rattle.vector_registers.specs.Settings.{oneOf, vlenAllowed, sewAllowed, lmulAllowed, groupRegisters, timesLmul, vlmax, registerBytes, fileBytes, groupLength, misaligned, occupies, applies1, applies3};
 
 // What the host sets before a word: VLEN and SEW in bits, LMUL in registers, vl and vstart in elements.
 pub struct Settings {
@@ -110,6 +110,16 @@ pub fn misaligned(lmul: u32, register: u32) -> bool
         return register != 0;
     }
     register % registers != 0
+}
+
+// The group whose first register this is occupies a register.
+pub fn occupies(lmul: u32, first: u32, register: u32) -> bool
+    ensures { λ r. ⌜ r ≡ occupies lmul first register ⌝ }
+{
+    if register < first {
+        return false;
+    }
+    (register as u64) < (first as u64) + (group_registers(lmul) as u64)
 }
 
 // ---- the numbers that no word is needed for, in the table's words

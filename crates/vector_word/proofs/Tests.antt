@@ -45,7 +45,11 @@ pub or-true : (a b : Bool) → (a || b) ≡ true → (a ≡ true) ⊎ (b ≡ tru
 or-true true b h = inl refl
 or-true false b h = inr h
 
+-- a pick that has a property passed by what has it not
+pub passed-by : (P : ℕ → Type 0) (a : Bool) (m n : ℕ) → (P m → ⊥) → P (cond a m n) → (a ≡ false) × P n
+passed-by P true m n out h = absurd (out h)
+passed-by P false m n out h = (refl, h)
+
 -- a pick of 0 passed by what is not 0
 pub passed : (a : Bool) (m n : ℕ) → 0 < m → cond a m n ≡ 0 → (a ≡ false) × (n ≡ 0)
-passed true m n p h = absurd (omega arith)
-passed false m n p h = (refl, h)
+passed a m n p = passed-by (λ (v : ℕ). v ≡ 0) a m n (λ e. omega arith)

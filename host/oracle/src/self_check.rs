@@ -1,16 +1,17 @@
 //! The model against the papers themselves, without the library: the marked cases, the example words and their texts,
-//! records by hand, published GHASH values, and each of the model's methods against another one.
+//! the overlap that is reserved, records by hand, published GHASH values, and each of the model's methods against
+//! another one.
 
 mod traces;
 
-use crate::model::execute::{execute, Request};
+use crate::model::execute::{execute, Request, LMULS, VLENS};
 use crate::model::field::{from_bits, inverse, single, times, to_bits, Block, ONE, ZERO};
 use crate::model::hash::ghash;
 use crate::model::linear::Solutions;
 use crate::model::running::{transition, Call, Fed, FRESH};
 use crate::model::step_back::{earlier, step_back_call};
 use crate::model::text::{assemble_call, listing, LEAST_BUFFER};
-use crate::model::word::{decode, Kind, Word, TABLE};
+use crate::model::word::{decode, Kind, Row, Word, TABLE};
 use crate::model::writer::{decode_call, encode, Fields};
 use crate::rng::Rng;
 use std::collections::HashMap;
@@ -22,6 +23,7 @@ pub fn run(seed: u64) -> bool {
     checks.extend(published());
     checks.push(("the example words", example_words()));
     checks.push(("mask and match against the table of fields", decoder_follows_table(&mut rng)));
+    checks.push(("number 7 against the bytes that source 002 means", overlap_follows_bytes()));
     checks.extend(texts(&mut rng));
     checks.extend(traces::checks(&mut rng));
     checks.push(("coefficient k is bit 7 - k mod 8 of byte k div 8", places()));
@@ -154,6 +156,31 @@ fn decoder_follows_table(rng: &mut Rng) -> bool {
         decode(word).map_or(false, |w| w.kind == row.kind && (w.vs2, w.vd) == (vs2, vd))
             && [word, damaged, rng.u32()].iter().all(|&w| decode(w) == by_fields(w))
     })
+}
+
+/// Each GHASH word with every vd and vs2, under each VLEN and LMUL.
+fn overlap_follows_bytes() -> bool {
+    let rows = TABLE.iter().filter(|row| row.kind.is_ghash());
+    let mut cases = rows.flat_map(|row| VLENS.into_iter().flat_map(move |vlen| LMULS.map(|lmul| (row, vlen, lmul))));
+    cases.all(|(row, vlen, lmul)| (0..32 * 32).all(|n| overlap_of_word(row, vlen, lmul, n / 32, n % 32)))
+}
+
+/// Source 002 reserves a .vs word where vd's register group overlaps the scalar element group of vs2: where a byte of
+/// the key, the 16 from the start of vs2 on, is one of vd's group. Number 6 comes before.
+fn overlap_of_word(row: &Row, vlen: u32, lmul: u32, vd: u32, vs2: u32) -> bool {
+    let is_vs = matches!(row.kind, Kind::VghshVs | Kind::VgmulVs);
+    let start = |register: u32| register * vlen / 8;
+    let (group, mut key) = (start(vd)..start(vd) + lmul * vlen / 8, start(vs2)..start(vs2) + 16);
+    let misaligned = vd % lmul != 0 || !is_vs && vs2 % lmul != 0;
+    let reserved = is_vs && key.any(|byte| group.contains(&byte));
+    let (word, file) = (row.encode(1, vs2, 8, vd), vec![0; start(32) as usize]);
+    let outcome = execute(&Request { word, vlen, sew: 32, lmul, vl: 4, vstart: 0, scalar: 0, file: &file });
+    let expected = match (misaligned, reserved) {
+        (true, _) => 6,
+        (false, true) => 7,
+        (false, false) => 0,
+    };
+    outcome.answer == expected
 }
 
 /// A word of each kind with its text and fields, put together by hand from document 01's table.

@@ -1,5 +1,5 @@
-//! rvghash_execute: at the limits of each setting, on all words that differ outside vd and vs2, on all pairs of 8-bit
-//! elements and all pairs of single bits of 64-bit ones, and on random input.
+//! rvghash_execute: at the limits of each setting, on all words that differ outside vd and vs2, on GHASH words with
+//! every vd and vs2, on all pairs of 8-bit elements and all pairs of single bits of 64-bit ones, and on random input.
 
 use super::execute_inputs::{any, content, scalar, single_bits, vlmax, Case, MOST_FILE};
 use crate::ffi::rvghash_execute;
@@ -13,6 +13,7 @@ pub fn run(run: &Run) {
     let mut memory = Memory::new();
     at_limits(run, &mut memory);
     all_words(run, &mut memory);
+    all_vd_and_vs2(run, &mut memory);
     all_bytes(run, &mut memory);
     all_bits(run, &mut memory);
     random(run, &mut memory);
@@ -117,6 +118,30 @@ fn all_words(run: &Run, memory: &mut Memory) {
         }
     }
     group.end(&[0, 2, 8]);
+}
+
+/// Each GHASH word with every vd and vs2, under each VLEN and LMUL: keys before, in and after vd's group among them.
+fn all_vd_and_vs2(run: &Run, memory: &mut Memory) {
+    let mut group = Group::new(run, "rvghash_execute, GHASH words with every vd and vs2");
+    let mut rng = group.rng(0);
+    for row in TABLE.iter().filter(|row| row.kind.is_ghash()) {
+        for vlen in VLENS {
+            for lmul in LMULS {
+                all_vd_and_vs2_of_setting(&mut group, memory, &mut rng, row, [vlen, lmul]);
+            }
+        }
+    }
+    group.end(&[0, 6, 7]);
+}
+
+fn all_vd_and_vs2_of_setting(g: &mut Group, m: &mut Memory, rng: &mut Rng, row: &Row, [vlen, lmul]: [u32; 2]) {
+    for vd_vs2 in 0..32 * 32 {
+        let vs1 = lmul * rng.below_u32(32 / lmul);
+        let word = Hex(row.encode(1, vd_vs2 % 32, vs1, vd_vs2 / 32) as u64);
+        let (vl, vstart) = (vlmax(vlen, 32, lmul), rng.pick(&[0, 4]));
+        let (scalar, file) = (Hex(rng.u64()), content(rng, 32 * vlen as usize / 8, vlen));
+        compare(g, m, rng, &Case { word, vlen, sew: 32, lmul, vl, vstart, scalar, file });
+    }
 }
 
 /// The product of each byte with each byte, low and high, by .vv and by .vx: vs2 counts up, vs1 and the scalar stand.

@@ -103,6 +103,28 @@ pub fn single_bits(rng: &mut Rng) -> Vec<Case> {
     cases
 }
 
+/// .vs words with the key in the first and the last register of vd's group, which are refused, and in those before and
+/// after it, which are done.
+pub fn keys_at_group(rng: &mut Rng) -> Vec<Case> {
+    const VD: u32 = 8;
+    let mut cases = Vec::new();
+    for row in TABLE.iter().filter(|row| row.kind.is_vs()) {
+        for vlen in VLENS {
+            for lmul in LMULS {
+                let mut keys = vec![VD - 1, VD, VD + lmul - 1, VD + lmul];
+                keys.dedup(); // at LMUL 1 the first register is the last
+                for vs2 in keys {
+                    let word = Hex(row.encode(1, vs2, 24, VD) as u64);
+                    let (vl, scalar) = (vlmax(vlen, 32, lmul), Hex(rng.u64()));
+                    let file = Bytes(rng.bytes(32 * vlen as usize / 8));
+                    cases.push(Case { word, vlen, sew: 32, lmul, vl, vstart: 0, scalar, file });
+                }
+            }
+        }
+    }
+    cases
+}
+
 /// One of the allowed values, or another one.
 fn setting(rng: &mut Rng, allowed: &[u32], others: &[u32], bad: usize) -> u32 {
     match (rng.often(bad), rng.below(4)) {
@@ -173,7 +195,8 @@ fn registers(rng: &mut Rng, kind: Kind, lmul: u32, bad: usize) -> [u32; 3] {
         2 => vs2 = vd,
         3 => vs1 = vs2,
         4 => (vs2, vs1) = (vd, vd),
-        5..=7 if kind.is_vs() => vs2 = vd / lmul * lmul + rng.below_u32(lmul),
+        5 if kind.is_vs() => vs2 = (vd + rng.below_u32(lmul)) % 32,
+        6..=7 if kind.is_vs() => vs2 = (vd + rng.pick(&[31, lmul])) % 32, // just before vd's group, or just after it
         8 => vs1 = 0,
         9 => vs2 = 0,
         10 => vd = 0,

@@ -38,6 +38,8 @@ pub fn execute(r: &Request) -> Outcome {
 fn refusal(r: &Request, word: Option<Word>) -> u32 {
     let is = |holds: &dyn Fn(&Word) -> bool| word.as_ref().map_or(false, holds);
     let over_vlmax = r.vl as u64 * r.sew as u64 > r.lmul as u64 * r.vlen as u64;
+    // Ask 4: vd <= vs2 < vd + LMUL, where LMUL may be any 32 bits.
+    let key_in_vd_group = |w: &Word| (w.vd as u64..w.vd as u64 + r.lmul as u64).contains(&(w.vs2 as u64));
     smallest(&[
         (1, !VLENS.contains(&r.vlen) || r.file.len() as u128 != 32 * r.vlen as u128 / 8),
         (2, word.is_none()),
@@ -45,7 +47,7 @@ fn refusal(r: &Request, word: Option<Word>) -> u32 {
         (4, is(&|w| w.kind.is_ghash() && r.sew != 32)),
         (5, is(&|w| w.kind.is_ghash() && !(is_multiple(r.vl, 4) && is_multiple(r.vstart, 4)))),
         (6, is(&|w| w.groups().iter().any(|&g| !is_multiple(g, r.lmul)))),
-        (7, is(&|w| w.kind.is_vs() && w.vs2 == w.vd)),
+        (7, is(&|w| w.kind.is_vs() && key_in_vd_group(w))),
         (8, is(&|w| !w.vm && w.beside_mask().contains(&0))),
     ])
 }
