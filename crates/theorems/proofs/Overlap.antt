@@ -25,14 +25,14 @@ use Rattle.vector_word.specs.declared.Word.the-variants.{Known}
 use Rattle.vector_word.specs.Word.{decode}
 use Rattle.vector_word.proofs.Tests.{passed-by}
 use Rattle.vector_refusal.specs.Refusal.{applies4, applies5, applies6, applies7, applies8, refusalOfKnown, refusalOfWord, refusalOf}
-use Rattle.vector_element.specs.Element.{elementAt, blockPlace}
+use Rattle.vector_element.specs.Element.{blockPlace}
 use Rattle.vector_element.specs.Steps.{steps}
 use Rattle.vector_ghash.specs.declared.GhashMultiplier.{GhashMultiplier}
 use Rattle.vector_ghash.specs.declared.GhashMultiplier.the-variants.{YXorX, YAlone}
 use Rattle.vector_ghash.specs.GhashWords.{vsStep, ghashVs}
 use Rattle.vector_execute.specs.Execute.{doneKnown, done}
 use Rattle.vector_execute.proofs.Admitted.{Admitted, admitted-as, performed}
-use Rattle.theorems.specs.Execution.{Within}
+use Rattle.theorems.specs.Execution.{pastUnit, unitBytes, unitPlace, Within}
 use Rattle.theorems.specs.Overlap.{InVdGroup, keyBytes, InKey, KeyOverlaps, SevenIsOverlap, WritesMissKey, keyIn, KeyStays}
 use Rattle.theorems.proofs.Places.{sew32, settings}
 use Rattle.theorems.proofs.Registers.{Ready, ready, group-fits}
@@ -123,15 +123,16 @@ seven-is-overlap fileLength word s k f known none =
 
 -- ---- the writes of a word that is done
 
-vs-is-ghash : (k : Kind) → isVs k ≡ true → isGhash k ≡ true
-vs-is-ghash VclmulVv e = absurd (true≢false (sym e))
-vs-is-ghash VclmulVx e = absurd (true≢false (sym e))
-vs-is-ghash VclmulhVv e = absurd (true≢false (sym e))
-vs-is-ghash VclmulhVx e = absurd (true≢false (sym e))
-vs-is-ghash VghshVv e = refl
-vs-is-ghash VghshVs e = refl
-vs-is-ghash VgmulVv e = refl
-vs-is-ghash VgmulVs e = refl
+-- what holds of both .vs kinds holds of every kind that is .vs
+each-vs : (P : Kind → Type 0) → P VghshVs → P VgmulVs → (k : Kind) → isVs k ≡ true → P k
+each-vs P hsh mul VclmulVv e = absurd (true≢false (sym e))
+each-vs P hsh mul VclmulVx e = absurd (true≢false (sym e))
+each-vs P hsh mul VclmulhVv e = absurd (true≢false (sym e))
+each-vs P hsh mul VclmulhVx e = absurd (true≢false (sym e))
+each-vs P hsh mul VghshVv e = absurd (true≢false (sym e))
+each-vs P hsh mul VghshVs e = hsh
+each-vs P hsh mul VgmulVv e = absurd (true≢false (sym e))
+each-vs P hsh mul VgmulVs e = mul
 
 module _ {fileLength : ℕ} {k : Kind} {f : Fields} {s : Settings} (a : Admitted fileLength k f s) (vs : isVs k ≡ true) where
   free : occupies (s .lmul) (f .vd) (f .vs2) ≡ false
@@ -139,7 +140,7 @@ module _ {fileLength : ℕ} {k : Kind} {f : Fields} {s : Settings} (a : Admitted
 
   misses : (i : ℕ) → i < s .vl / 4 → (p : ℕ) → Within (blockPlace (s .vlen) (f .vd) i) 16 p → InKey f s p → ⊥
   misses i h p w key =
-      let is32 : s .sew ≡ 32 = sew32 (s .sew) (subst (λ (b : Bool). b && not (eqb (s .sew) 32) ≡ false) (vs-is-ghash k vs) (a .not4)) in
+      let is32 : s .sew ≡ 32 = sew32 (s .sew) (subst (λ (b : Bool). b && not (eqb (s .sew) 32) ≡ false) (each-vs (λ (k : Kind). isGhash k ≡ true) refl refl k vs) (a .not4)) in
       let fits = group-fits s (settings a) is32 i h in
       let inside : InVdGroup f s p = (omega arith, omega arith) in
       true≢false (sym (met f s (settings a .sixteen) p key inside) ∙ free)
@@ -157,24 +158,19 @@ module _ {fileLength : ℕ} {k : Kind} {f : Fields} {s : Settings} (a : Admitted
       → keyIn f s (steps (vsStep (keyIn f s file) m f s) n (s .vstart / 4) file) ≡ keyIn f s file
   steps-keep m file n h = kept m (keyIn f s file) n (s .vstart / 4) file (omega arith) (omega arith)
 
-word-keeps : (k : Kind) (f : Fields) (s : Settings) (scalar : ℕ) (file : List ℕ) → Admitted (length file) k f s → isVs k ≡ true
+word-keeps : (k : Kind) (f : Fields) (s : Settings) (scalar : ℕ) (file : List ℕ) → isVs k ≡ true → Admitted (length file) k f s
     → keyIn f s (doneKnown k f s scalar file) ≡ keyIn f s file
 unfolding ghashVs
-word-keeps VclmulVv f s scalar file a e = absurd (true≢false (sym e))
-word-keeps VclmulVx f s scalar file a e = absurd (true≢false (sym e))
-word-keeps VclmulhVv f s scalar file a e = absurd (true≢false (sym e))
-word-keeps VclmulhVx f s scalar file a e = absurd (true≢false (sym e))
-word-keeps VghshVv f s scalar file a e = absurd (true≢false (sym e))
-word-keeps VghshVs f s scalar file a e = steps-keep a e YXorX file (s .vl / 4 - s .vstart / 4) (omega arith)
-word-keeps VgmulVv f s scalar file a e = absurd (true≢false (sym e))
-word-keeps VgmulVs f s scalar file a e = steps-keep a e YAlone file (s .vl / 4 - s .vstart / 4) (omega arith)
+word-keeps k f s scalar file vs =
+    each-vs (λ (k : Kind). Admitted (length file) k f s → keyIn f s (doneKnown k f s scalar file) ≡ keyIn f s file)
+    (λ a. steps-keep a refl YXorX file (s .vl / 4 - s .vstart / 4) (omega arith))
+    (λ a. steps-keep a refl YAlone file (s .vl / 4 - s .vstart / 4) (omega arith)) k vs
 
 pub writes-miss-key : WritesMissKey
 writes-miss-key fileLength word s number k f known vs i h p =
-    let a = admitted-as fileLength word s known number in
-    subst
-    (λ (b : Bool). (i < cond b (s .vl / 4) (s .vl)) → Within (cond b (blockPlace (s .vlen) (f .vd) i) (elementAt (s .vlen) (s .sew) (f .vd) i)) (cond b 16 (s .sew / 8)) p → InKey f s p → ⊥)
-    (sym (vs-is-ghash k vs)) (λ l. misses a vs i l p) (omega (arith, h))
+    each-vs
+    (λ (k : Kind). Admitted fileLength k f s → i < pastUnit k s → Within (unitPlace k f s i) (unitBytes k s) p → InKey f s p → ⊥)
+    (λ a l. misses a refl i l p) (λ a l. misses a refl i l p) k vs (admitted-as fileLength word s known number) (omega (arith, h))
 
 pub key-stays : KeyStays
 key-stays word s scalar file number k f known vs =
@@ -183,5 +179,5 @@ key-stays word s scalar file number k f known vs =
       between = λ m n h. steps-keep a vs m file n (omega (arith, h));
       after =
           ap (keyIn f s) (sym (performed word s scalar file number .1) ∙ ap (λ (w : Word). done w s scalar file) known)
-          ∙ word-keeps k f s scalar file a vs;
+          ∙ word-keeps k f s scalar file vs a;
     }
