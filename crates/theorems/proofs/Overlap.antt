@@ -15,7 +15,7 @@ use Rattle.octets.proofs.BigEndian.{beAt-same}
 use Rattle.octets.proofs.Tests.{both}
 use Rattle.gf128.proofs.Bytes.{putBlock-other}
 use Rattle.vector_registers.specs.declared.settings.Settings.{Settings}
-use Rattle.vector_registers.specs.Settings.{applies1, applies3, registerBytes, groupRegisters, occupies}
+use Rattle.vector_registers.specs.Settings.{applies1, registerBytes, groupRegisters, occupies}
 use Rattle.vector_word.specs.declared.Fields.{Fields}
 use Rattle.vector_kind.specs.declared.Kind.{Kind}
 use Rattle.vector_kind.specs.declared.Kind.the-variants.{VclmulVv, VclmulVx, VclmulhVv, VclmulhVx, VghshVv, VghshVs, VgmulVv, VgmulVs}
@@ -23,15 +23,15 @@ use Rattle.vector_kind.specs.Kinds.{isGhash, isVs}
 use Rattle.vector_word.specs.declared.Word.{Word}
 use Rattle.vector_word.specs.declared.Word.the-variants.{Known}
 use Rattle.vector_word.specs.Word.{decode}
-use Rattle.vector_word.proofs.Tests.{passed-by}
-use Rattle.vector_refusal.specs.Refusal.{applies4, applies5, applies6, applies7, applies8, refusalOfKnown, refusalOfWord, refusalOf}
+use Rattle.vector_word.proofs.Tests.{past, held, passed-by}
+use Rattle.vector_refusal.specs.Refusal.{applies7, applies8, refusalOfWord, refusalOf}
 use Rattle.vector_element.specs.Element.{blockPlace}
 use Rattle.vector_element.specs.Steps.{steps}
 use Rattle.vector_ghash.specs.declared.GhashMultiplier.{GhashMultiplier}
 use Rattle.vector_ghash.specs.declared.GhashMultiplier.the-variants.{YXorX, YAlone}
 use Rattle.vector_ghash.specs.GhashWords.{vsStep, ghashVs}
 use Rattle.vector_execute.specs.Execute.{doneKnown, done}
-use Rattle.vector_execute.proofs.Admitted.{Admitted, admitted-as, performed}
+use Rattle.vector_execute.proofs.Admitted.{Admitted, past-six, admitted-as, performed}
 use Rattle.theorems.specs.Execution.{pastUnit, unitBytes, unitPlace, Within}
 use Rattle.theorems.specs.Overlap.{InVdGroup, keyBytes, InKey, KeyOverlaps, SevenIsOverlap, WritesMissKey, keyIn, KeyStays}
 use Rattle.theorems.proofs.Places.{sew32, settings}
@@ -84,15 +84,15 @@ module _
     no : (n : ℕ) → 0 < n → n < 7 → Is n → ⊥
     no n low high e = none (omega arith, omega arith)
 
-    left : Ready fileLength s × Is (cond (applies7 k f s) 7 (cond (applies8 k f) 8 0))
-    unfolding refusalOf refusalOfKnown
+    abbrev rest : ℕ
+    rest = cond (applies8 k f) 8 0
+
+    left : Ready fileLength s × Is (cond (applies7 k f s) 7 rest)
+    unfolding refusalOf
     left =
         let p1 = passed-by Is (applies1 fileLength (s .vlen)) 1 (refusalOfWord (decode word) s) (no 1 (omega arith) (omega arith)) refl in
-        let p3 = passed-by Is (applies3 s) 3 _ (no 3 (omega arith) (omega arith)) (subst (λ (w : Word). Is (refusalOfWord w s)) known (p1 .1)) in
-        let p4 = passed-by Is (applies4 k s) 4 _ (no 4 (omega arith) (omega arith)) (p3 .1) in
-        let p5 = passed-by Is (applies5 k s) 5 _ (no 5 (omega arith) (omega arith)) (p4 .1) in
-        let p6 = passed-by Is (applies6 k f s) 6 _ (no 6 (omega arith) (omega arith)) (p5 .1) in
-        (ready fileLength s (p1 .0) (p3 .0), p6 .1)
+        let p = past-six Is k f s no (subst (λ (w : Word). Is (refusalOfWord w s)) known (p1 .1)) in
+        (ready fileLength s (p1 .0) (p .0), p .4)
 
     applied : Is 7 → applies7 k f s ≡ true
     applied e = go (applies7 k f s) refl
@@ -103,7 +103,7 @@ module _
 
         go : (b : Bool) → applies7 k f s ≡ b → applies7 k f s ≡ true
         go true h = h
-        go false h = absurd (other (applies8 k f) (sym e ∙ left .1 ∙ ap (λ (b : Bool). cond b 7 (cond (applies8 k f) 8 0)) h))
+        go false h = absurd (other (applies8 k f) (sym e ∙ past (applies7 k f s) 7 rest (left .1) h))
 
     overlaps : Is 7 → KeyOverlaps k f s
     overlaps e =
@@ -114,7 +114,7 @@ module _
     given : KeyOverlaps k f s → Is 7
     given (vs, p, key, w) =
         let applies : applies7 k f s ≡ true = rw (vs, met f s (left .0 .sixteen) p key w) refl in
-        left .1 ∙ ap (λ (b : Bool). cond b 7 (cond (applies8 k f) 8 0)) applies
+        sym (held (applies7 k f s) 7 rest (left .1) applies)
 
 pub seven-is-overlap : SevenIsOverlap
 seven-is-overlap fileLength word s k f known none =

@@ -1,11 +1,12 @@
 -- What it tells of a word and its settings that the number is 0: the word is one of the eight, and none of the refusals applies;
 -- and what a call leaves, by its number.
 -- Assumes nothing.
-use mathlib.Core.Bool.{true, false, not, _||_}
+use mathlib.Core.Bool.{true, false, cond, not, _||_}
 use mathlib.Core.Path.{_≡_, refl, subst}
-use Prim.Native.Nat.{ℕ}
+use Prim.Native.Nat.{ℕ, _<_}
 use mathlib.Core.List.{List}
 use native.Mathlib.Nat.{suc-ne-zero, zero-lt-suc}
+use native.Mathlib.Omega.{arith}
 use borrow.Author.Tests.{eq-eqb, ne-eqb, not-false}
 use lib.Dec.{eqb, ltb}
 use lib.ListN.{length}
@@ -17,7 +18,7 @@ use Rattle.vector_word.specs.declared.Word.the-variants.{Known, Unknown}
 use Rattle.vector_registers.specs.Settings.{applies1, applies3, sewAllowed, lmulAllowed, vlmax}
 use Rattle.vector_refusal.specs.Refusal.{applies4, applies5, applies6, applies7, applies8, refusalOfKnown, refusalOfWord, refusalOf}
 use Rattle.vector_word.specs.Word.{decode}
-use Rattle.vector_word.proofs.Tests.{or-false, passed, pick-here, pick-next}
+use Rattle.vector_word.proofs.Tests.{or-false, passed, passed-by, pick-here, pick-next}
 use Rattle.vector_execute.specs.Execute.{done, executed, vstartAfter}
 
 pub record Admitted (fileLength : ℕ) (k : Kind) (f : Fields) (s : Settings) : Type 0 where
@@ -29,17 +30,25 @@ pub record Admitted (fileLength : ℕ) (k : Kind) (f : Fields) (s : Settings) : 
   pub not7 : applies7 k f s ≡ false
   pub not8 : applies8 k f ≡ false
 
+-- where the number has a property that none of 1 to 6 has, it is past their tests
+pub past-six : (P : ℕ → Type 0) (k : Kind) (f : Fields) (s : Settings) → ((n : ℕ) → 0 < n → n < 7 → P n → ⊥) → P (refusalOfKnown k f s)
+    → (applies3 s ≡ false) × (applies4 k s ≡ false) × (applies5 k s ≡ false) × (applies6 k f s ≡ false)
+    × P (cond (applies7 k f s) 7 (cond (applies8 k f) 8 0))
+unfolding refusalOfKnown
+past-six P k f s out h =
+    let p3 = passed-by P (applies3 s) 3 _ (out 3 (omega arith) (omega arith)) h in
+    let p4 = passed-by P (applies4 k s) 4 _ (out 4 (omega arith) (omega arith)) (p3 .1) in
+    let p5 = passed-by P (applies5 k s) 5 _ (out 5 (omega arith) (omega arith)) (p4 .1) in
+    let p6 = passed-by P (applies6 k f s) 6 _ (out 6 (omega arith) (omega arith)) (p5 .1) in
+    (p3 .0, p4 .0, p5 .0, p6 .0, p6 .1)
+
 known : (fileLength : ℕ) (k : Kind) (f : Fields) (s : Settings)
     → applies1 fileLength (s .vlen) ≡ false → refusalOfKnown k f s ≡ 0 → Admitted fileLength k f s
-unfolding refusalOfKnown
 known fileLength k f s h1 e =
-    let p3 = passed (applies3 s) 3 _ (zero-lt-suc 2) e in
-    let p4 = passed (applies4 k s) 4 _ (zero-lt-suc 3) (p3 .1) in
-    let p5 = passed (applies5 k s) 5 _ (zero-lt-suc 4) (p4 .1) in
-    let p6 = passed (applies6 k f s) 6 _ (zero-lt-suc 5) (p5 .1) in
-    let p7 = passed (applies7 k f s) 7 _ (zero-lt-suc 6) (p6 .1) in
+    let p = past-six (λ (v : ℕ). v ≡ 0) k f s (λ n low high z. omega arith) e in
+    let p7 = passed (applies7 k f s) 7 _ (zero-lt-suc 6) (p .4) in
     let p8 = passed (applies8 k f) 8 0 (zero-lt-suc 7) (p7 .1) in
-    record { not1 = h1; not3 = p3 .0; not4 = p4 .0; not5 = p5 .0; not6 = p6 .0; not7 = p7 .0; not8 = p8 .0 }
+    record { not1 = h1; not3 = p .0; not4 = p .1; not5 = p .2; not6 = p .3; not7 = p7 .0; not8 = p8 .0 }
 
 pub admitted : (fileLength word : ℕ) (s : Settings) → refusalOf fileLength word s ≡ 0
     → (k : Kind) × (f : Fields) × (decode word ≡ Known k f) × Admitted fileLength k f s
