@@ -14,7 +14,7 @@ const char *meaning_of(uint32_t number)
     case RVGHASH_BAD_GROUP: return "a register group's number is no multiple of LMUL";
     case RVGHASH_KEY_OVERLAP: return "a .vs word and vd <= vs2 < vd + LMUL";
     case RVGHASH_MASK_OVERLAP: return "vm is 0 and a register group is register 0";
-    case RVGHASH_BAD_TRACE: return "the trace's length is no multiple of 24, or a zero byte is not zero";
+    case RVGHASH_BAD_TRACE: return "the trace's length is no multiple of 24, or a policy byte is over 3";
     default: return "no such number";
     }
 }

@@ -114,16 +114,23 @@ static struct listing listing_of(uint32_t word)
     return listing;
 }
 
+/* The policies of a record, in the words of vsetvli. */
+static const char *policies_of(const struct record *record)
+{
+    static const char *const words[2][2] = {{"tu, mu", "tu, ma"}, {"ta, mu", "ta, ma"}};
+    return words[record->tail_agnostic][record->mask_agnostic];
+}
+
 /* Shows the next record in a line. Its columns have room for the settings of every call that can be done. */
 static void show_record(const struct replay *r)
 {
     struct record record = record_of(&r->trace, r->agree);
     struct listing listing = listing_of(record.word);
     int digits = snprintf(NULL, 0, "%zu", r->records - 1);
-    printf("%*zu  0x%08" PRIX32 " %-30s  SEW %2" PRIu32 "  LMUL %" PRIu32 "  vl %3" PRIu32 "  vstart %3" PRIu32
+    printf("%*zu  0x%08" PRIX32 " %-30s  SEW %2" PRIu32 "  LMUL %" PRIu32 "  %s  vl %3" PRIu32 "  vstart %3" PRIu32
            "  scalar 0x%016" PRIX64 "  answer %" PRIu32 "\n",
-           digits, r->agree, record.word, listing.text, record.sew, record.lmul, record.vl, record.vstart, record.scalar,
-           record.answer);
+           digits, r->agree, record.word, listing.text, record.sew, record.lmul, policies_of(&record), record.vl,
+           record.vstart, record.scalar, record.answer);
 }
 
 /* Replays the next records, and counts those that agree. */
@@ -162,7 +169,8 @@ static enum status answer_of(const struct replay *r, const struct record *record
     if (copy == NULL)
         return cannot("a copy of the register file");
     memcpy(copy, r->registers.at, length);
-    *answer = rvghash_execute(record->word, r->vlen, record->sew, record->lmul, record->vl, &vstart, record->scalar, copy, length);
+    *answer = rvghash_execute_policies(record->word, r->vlen, record->sew, record->lmul, record->tail_agnostic,
+                                       record->mask_agnostic, record->vl, &vstart, record->scalar, copy, length);
     free(copy);
     return STATUS_DONE;
 }
@@ -175,8 +183,8 @@ static enum status tell_difference(const struct replay *r)
     if (answer_of(r, &record, &ours) != STATUS_DONE)
         return STATUS_FAILED;
     printf("record %zu differs: 0x%08" PRIX32 " %s\n", r->agree, record.word, listing.text);
-    printf("    SEW %" PRIu32 ", LMUL %" PRIu32 ", vl %" PRIu32 ", vstart %" PRIu32 ", scalar 0x%016" PRIX64 "\n", record.sew,
-           record.lmul, record.vl, record.vstart, record.scalar);
+    printf("    SEW %" PRIu32 ", LMUL %" PRIu32 ", %s, vl %" PRIu32 ", vstart %" PRIu32 ", scalar 0x%016" PRIX64 "\n",
+           record.sew, record.lmul, policies_of(&record), record.vl, record.vstart, record.scalar);
     printf("    recorded answer %" PRIu32 ": %s\n", record.answer, meaning_of_answer(record.answer));
     printf("    our answer %" PRIu32 ": %s\n", ours, meaning_of_answer(ours));
     return STATUS_WRONG;
@@ -221,15 +229,16 @@ const struct subcommand replay_command = {
     "replay", options, "VLEN [REGISTERS] TRACE", "a recorded trace, up to the first answer that differs",
     "Executes the records of TRACE one after the other on the register file, and compares each answer with ours. It\n"
     "writes how many agree, and of the first that differs the index (from 0), the word and its text, the settings,\n"
-    "the recorded answer and ours. VLEN is a decimal number. REGISTERS holds the register file before the first\n"
-    "record, register r from byte r * VLEN / 8 on. TRACE holds records of 24 bytes, as rvghash.h has them. One of\n"
-    "both may be -, standard input.\n\n"
+    "the recorded answer and ours. The tail and mask policies are shown as vsetvli has them: ta or tu, ma or mu. VLEN\n"
+    "is a decimal number. REGISTERS holds the register file before the first record, register r from byte\n"
+    "r * VLEN / 8 on. TRACE holds records of 24 bytes, as rvghash.h has them. One of both may be -, standard input.\n\n"
     "    --show         writes a line for each record before it is replayed\n"
     "    --write FILE   writes the register file as it is afterwards; at a difference, as it was before that record\n"
     "    --zero         every register is zero at first; there is no REGISTERS then\n\n"
-    "A trace with a torn record, or with a zero byte that is not zero, is refused (14) with the place, and nothing\n"
-    "runs or is written. A VLEN or a length of REGISTERS that is not allowed is noted: every call then answers 1.\n"
-    "A difference is status 1, a refused trace status 2. A trace that a version before 0.4.0 recorded may differ at\n"
-    "a .vs word with vd < vs2 < vd + LMUL, which was done then and is refused (7) now.\n",
+    "A trace with a torn record, or with a policy byte over 3, is refused (14) with the place, and nothing runs or is\n"
+    "written. A VLEN or a length of REGISTERS that is not allowed is noted: every call then answers 1. A difference\n"
+    "is status 1, a refused trace status 2. A trace that a version before 0.4.0 recorded may differ at a .vs word\n"
+    "with vd < vs2 < vd + LMUL, which was done then and is refused (7) now. A trace with ta or ma needs version 0.5.0:\n"
+    "those before it refuse its policy bytes.\n",
     replay,
 };

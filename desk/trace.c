@@ -2,7 +2,8 @@
 #include "rvghash.h"
 #include "trace.h"
 
-#define ZERO_BYTE 7 /* of a record, after the answer */
+#define POLICY_BYTE 7 /* of a record, after the answer */
+#define ALL_POLICIES (RVGHASH_TAIL_AGNOSTIC + RVGHASH_MASK_AGNOSTIC)
 
 /* A number of some bytes, the low byte first. */
 static uint64_t number_at(const uint8_t *bytes, int count)
@@ -21,6 +22,8 @@ struct record record_of(const struct bytes *trace, size_t index)
         .sew = bytes[4],
         .lmul = bytes[5],
         .answer = bytes[6],
+        .tail_agnostic = (bytes[POLICY_BYTE] & RVGHASH_TAIL_AGNOSTIC) != 0,
+        .mask_agnostic = (bytes[POLICY_BYTE] & RVGHASH_MASK_AGNOSTIC) != 0,
         .vl = (uint32_t)number_at(bytes + 8, 4),
         .vstart = (uint32_t)number_at(bytes + 12, 4),
         .scalar = number_at(bytes + 16, 8),
@@ -36,10 +39,10 @@ enum status look_through(const char *name, const struct bytes *trace)
                 shown_name(name), RVGHASH_BAD_TRACE, trace->length, RVGHASH_RECORD_BYTES, records, torn);
         return STATUS_FAILED;
     }
-    for (size_t at = ZERO_BYTE; at < trace->length; at += RVGHASH_RECORD_BYTES)
-        if (trace->at[at] != 0) {
-            fprintf(stderr, "%s: refused (%d): the zero byte of record %zu, at offset %zu, is 0x%02X\n", shown_name(name),
-                    RVGHASH_BAD_TRACE, at / RVGHASH_RECORD_BYTES, at, trace->at[at]);
+    for (size_t at = POLICY_BYTE; at < trace->length; at += RVGHASH_RECORD_BYTES)
+        if (trace->at[at] > ALL_POLICIES) {
+            fprintf(stderr, "%s: refused (%d): the policy byte of record %zu, at offset %zu, is 0x%02X, and not 0 to %d\n",
+                    shown_name(name), RVGHASH_BAD_TRACE, at / RVGHASH_RECORD_BYTES, at, trace->at[at], ALL_POLICIES);
             return STATUS_FAILED;
         }
     return STATUS_DONE;

@@ -2,11 +2,14 @@
 #ifndef TRACE_H
 #define TRACE_H
 
+#include <stdbool.h>
+
 #include "files.h"
 
 /* A call of the executor, and the answer that was recorded. */
 struct record {
     uint32_t word, sew, lmul, answer, vl, vstart;
+    bool tail_agnostic, mask_agnostic;
     uint64_t scalar;
 };
 

@@ -1,13 +1,14 @@
 /*
  * An example monitor: takes trapped words with their settings from a text file, executes each on a register file
- * with rvghash_execute, and prints what it did. Read it to learn how to call the library.
+ * with rvghash_execute_policies, and prints what it did. Read it to learn how to call the library.
  *
  *     monitor [--record TRACE [--registers REGISTERS]] FILE
  *
  * A line of the file is one of these; # begins a comment.
- *     vlen N                                  clears the register file for this VLEN
- *     reg R HEX                               bytes for register R, from its first byte on
- *     trap WORD SEW LMUL VL VSTART SCALAR     a trapped word (WORD and SCALAR in hex, 0x or not)
+ *     vlen N                                                clears the register file for this VLEN
+ *     reg R HEX                                             bytes for register R, from its first byte on
+ *     trap WORD SEW LMUL VL VSTART SCALAR [ta|tu ma|mu]     a trapped word (WORD and SCALAR in hex, 0x or not)
+ * ta and ma are the tail and mask policies of vtype, in the words of vsetvli; without them it is tu mu.
  *
  * --record writes a record of each call to TRACE, for rvghash_replay. --registers writes the register file that a
  * replay starts from to REGISTERS, byte for byte: as it was before the first record, or at the end where there is none.
@@ -31,7 +32,7 @@
 #define MAX_VLEN 512
 #define MAX_FILE RVGHASH_FILE_BYTES(MAX_VLEN)
 #define MAX_LINE 511
-#define MAX_WORDS 7
+#define MAX_WORDS 9
 
 /* Where the records go. A file that was not asked for is NULL. */
 struct recording {
@@ -45,14 +46,15 @@ struct machine {
     struct recording recording;
 };
 
-/* A trapped word and what rvghash_execute takes with it; vstart as it was before the call. */
+/* A trapped word and what rvghash_execute_policies takes with it; vstart as it was before the call. */
 struct call {
     uint32_t word, sew, lmul, vl, vstart;
+    bool tail_agnostic, mask_agnostic;
     uint64_t scalar;
 };
 
-/* The trapped word and its text, for the listing alone: rvghash_execute decodes the word itself. A text has no zero
- * byte at its end, and at most 30 bytes. */
+/* The trapped word and its text, for the listing alone: the executor decodes the word itself. A text has no zero byte
+ * at its end, and at most 30 bytes. */
 static void print_word(uint32_t word)
 {
     uint8_t text[RVGHASH_TEXT_BYTES];
@@ -128,8 +130,8 @@ static void record(struct machine *m, const struct place *at, const struct call 
     uint8_t bytes[RVGHASH_RECORD_BYTES];
     if (m->recording.trace == NULL)
         return;
-    uint32_t number =
-        rvghash_put_record(c->word, c->sew, c->lmul, answer, c->vl, c->vstart, c->scalar, bytes, sizeof bytes);
+    uint32_t number = rvghash_put_record(c->word, c->sew, c->lmul, c->tail_agnostic, c->mask_agnostic, answer, c->vl,
+                                         c->vstart, c->scalar, bytes, sizeof bytes);
     if (number != RVGHASH_DONE) {
         tell(at, "trap", "not recorded, SEW or LMUL is over 255");
         return;
@@ -152,11 +154,13 @@ static void trap(struct machine *m, const struct place *at, const struct call *c
     size_t bytes = m->vlen / 8, length = RVGHASH_FILE_BYTES(m->vlen);
     uint32_t vstart = c->vstart;
     memcpy(before, m->file, length);
-    uint32_t number = rvghash_execute(c->word, m->vlen, c->sew, c->lmul, c->vl, &vstart, c->scalar, m->file, length);
+    uint32_t number = rvghash_execute_policies(c->word, m->vlen, c->sew, c->lmul, c->tail_agnostic, c->mask_agnostic,
+                                               c->vl, &vstart, c->scalar, m->file, length);
     record(m, at, c, number, before);
     print_word(c->word);
-    printf("  answer %" PRIu32 ": %s; vstart %s %" PRIu32 "\n", number, meaning_of(number),
-           number == RVGHASH_DONE ? "is now" : "stays", vstart);
+    printf("  %s, %s  answer %" PRIu32 ": %s; vstart %s %" PRIu32 "\n", c->tail_agnostic ? "ta" : "tu",
+           c->mask_agnostic ? "ma" : "mu", number, meaning_of(number), number == RVGHASH_DONE ? "is now" : "stays",
+           vstart);
     unsigned changed = 0;
     for (unsigned r = 0; r < 32 && bytes > 0; r++)
         if (memcmp(before + r * bytes, m->file + r * bytes, bytes) != 0) {
@@ -205,6 +209,14 @@ static int small(const struct place *at, const char *word, int base, uint32_t mo
     return 1;
 }
 
+/* Reads a policy by its two words; it is off where the line has none. */
+static int policy(const struct place *at, const char *word, const char *on, const char *off, const char *neither,
+                  bool *to)
+{
+    *to = word != NULL && strcmp(word, on) == 0;
+    return word == NULL || *to || strcmp(word, off) == 0 ? 1 : wrong(at, word, neither);
+}
+
 static int take_vlen(struct machine *m, const struct place *at, char **words)
 {
     uint32_t vlen;
@@ -241,7 +253,9 @@ static int take_trap(struct machine *m, const struct place *at, char **words)
     struct call c;
     if (!small(at, words[1], 16, UINT32_MAX, &c.word) || !small(at, words[2], 10, UINT32_MAX, &c.sew) ||
         !small(at, words[3], 10, UINT32_MAX, &c.lmul) || !small(at, words[4], 10, UINT32_MAX, &c.vl) ||
-        !small(at, words[5], 10, UINT32_MAX, &c.vstart) || !number(at, words[6], 16, UINT64_MAX, &c.scalar))
+        !small(at, words[5], 10, UINT32_MAX, &c.vstart) || !number(at, words[6], 16, UINT64_MAX, &c.scalar) ||
+        !policy(at, words[7], "ta", "tu", "not ta or tu", &c.tail_agnostic) ||
+        !policy(at, words[8], "ma", "mu", "not ma or mu", &c.mask_agnostic))
         return 0;
     trap(m, at, &c);
     return 1;
@@ -252,14 +266,14 @@ static int take_line(struct machine *m, const struct place *at, char *line)
 {
     static const struct {
         const char *name, *form;
-        int words;
+        int least, most; /* words: one of both, and no number between */
         int (*take)(struct machine *, const struct place *, char **);
     } kinds[] = {
-        {"vlen", "must be: vlen N", 2, take_vlen},
-        {"reg", "must be: reg R HEX", 3, take_reg},
-        {"trap", "must be: trap WORD SEW LMUL VL VSTART SCALAR", 7, take_trap},
+        {"vlen", "must be: vlen N", 2, 2, take_vlen},
+        {"reg", "must be: reg R HEX", 3, 3, take_reg},
+        {"trap", "must be: trap WORD SEW LMUL VL VSTART SCALAR [ta|tu ma|mu]", 7, 9, take_trap},
     };
-    char *words[MAX_WORDS];
+    char *words[MAX_WORDS] = {NULL};
     int count = 0;
     line[strcspn(line, "#")] = '\0';
     for (char *word = strtok(line, " \t\r"); word != NULL; word = strtok(NULL, " \t\r"), count++)
@@ -269,7 +283,8 @@ static int take_line(struct machine *m, const struct place *at, char *line)
         return 1;
     for (size_t i = 0; i < sizeof kinds / sizeof kinds[0]; i++)
         if (strcmp(words[0], kinds[i].name) == 0)
-            return count == kinds[i].words ? kinds[i].take(m, at, words) : wrong(at, words[0], kinds[i].form);
+            return count == kinds[i].least || count == kinds[i].most ? kinds[i].take(m, at, words)
+                                                                     : wrong(at, words[0], kinds[i].form);
     return wrong(at, words[0], "not vlen, reg, trap or a comment");
 }
 

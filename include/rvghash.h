@@ -17,14 +17,17 @@
 #ifndef RVGHASH_H
 #define RVGHASH_H
 
+#ifndef __cplusplus
+#include <stdbool.h>
+#endif
 #include <stddef.h>
 #include <stdint.h>
 
 /* The version, as the file VERSION has it. */
 #define RVGHASH_VERSION_MAJOR 0
-#define RVGHASH_VERSION_MINOR 4
+#define RVGHASH_VERSION_MINOR 5
 #define RVGHASH_VERSION_PATCH 0
-#define RVGHASH_VERSION_STRING "0.4.0"
+#define RVGHASH_VERSION_STRING "0.5.0"
 
 #define RVGHASH_BLOCK_BYTES 16                             /* of a key, a block, a hash */
 #define RVGHASH_LIMIT_BYTES 1048576                        /* the most that A may have, and C */
@@ -60,13 +63,13 @@ enum rvghash_number {
     RVGHASH_TOO_LONG = 11,         /* A or C would pass 1,048,576 bytes */
     RVGHASH_NONE = 12,             /* step back: no earlier hash; degree: zero block */
     RVGHASH_MANY = 13,             /* step back: more than one earlier hash */
-    RVGHASH_BAD_TRACE = 14,        /* replay: the trace's length no multiple of 24, or a zero byte that is not zero;
+    RVGHASH_BAD_TRACE = 14,        /* replay: the trace's length no multiple of 24, or a policy byte over 3;
                                       record: its length not 24, or SEW, LMUL or the answer over 255 */
     RVGHASH_SHORT_TEXT = 22        /* listing: a text's buffer under 32 bytes */
 };
 
 /*
- * Executes one word on the register file.
+ * Executes one word on the register file, as rvghash_execute_policies does with both policies off.
  * Lent: vstart, one number; file, file_len bytes, register r from byte r * vlen / 8 on.
  * Done (0): the file holds what the instruction writes, every other byte is as before, and *vstart is 0.
  * Refused (1 to 8): the file and *vstart are as before.
@@ -75,6 +78,20 @@ enum rvghash_number {
 RVGHASH_MUST_USE
 uint32_t rvghash_execute(uint32_t word, uint32_t vlen, uint32_t sew, uint32_t lmul, uint32_t vl, uint32_t *vstart,
                          uint64_t scalar, uint8_t *file, size_t file_len);
+
+/*
+ * The same under vtype's policies: tail_agnostic is its bit vta, and mask_agnostic its bit vma.
+ * Lent: vstart, one number; file, file_len bytes, as above.
+ * Done (0): as above, and these bytes of the vd group are ones bits now:
+ * - with tail_agnostic, all from element vl on, to the group's end; in GHASH words that is from group vl / 4 on;
+ * - with mask_agnostic and vm 0, the elements from vstart to vl - 1 whose mask bit was 0 before the call.
+ * But where *vstart was vl or more the file is as before, whatever the policies; *vstart is 0 all the same.
+ * Refused (1 to 8, the same under all policies): the file and *vstart are as before.
+ */
+RVGHASH_MUST_USE
+uint32_t rvghash_execute_policies(uint32_t word, uint32_t vlen, uint32_t sew, uint32_t lmul, bool tail_agnostic,
+                                  bool mask_agnostic, uint32_t vl, uint32_t *vstart, uint64_t scalar, uint8_t *file,
+                                  size_t file_len);
 
 /*
  * Whether a register group exists: 1 as above, 3 if LMUL is not allowed, 6 if the register is over 31 or no multiple
@@ -143,10 +160,12 @@ RVGHASH_MUST_USE
 uint32_t rvghash_assemble(const uint8_t *text, size_t text_len, uint32_t *word);
 
 /*
- * A trace is records of 24 bytes, one for each call of rvghash_execute, and nothing else: word (4 bytes), SEW, LMUL,
- * answer, a zero byte, vl (4), vstart before the call (4), scalar (8), numbers low byte first.
+ * A trace is records of 24 bytes, one for each call of the executor, and nothing else: word (4 bytes), SEW, LMUL,
+ * answer, policy byte, vl (4), vstart before the call (4), scalar (8), numbers low byte first. The policy byte is the
+ * sum of the policies that are on. Versions before 0.5.0 write 0 there, and refuse every other byte.
  */
 enum { RVGHASH_RECORD_BYTES = 24 };
+enum { RVGHASH_TAIL_AGNOSTIC = 1, RVGHASH_MASK_AGNOSTIC = 2 }; /* of the policy byte */
 
 /*
  * Writes a call and its answer as a record.
@@ -155,17 +174,19 @@ enum { RVGHASH_RECORD_BYTES = 24 };
  * as before.
  */
 RVGHASH_MUST_USE
-uint32_t rvghash_put_record(uint32_t word, uint32_t sew, uint32_t lmul, uint32_t answer, uint32_t vl, uint32_t vstart,
-                            uint64_t scalar, uint8_t *record, size_t record_len);
+uint32_t rvghash_put_record(uint32_t word, uint32_t sew, uint32_t lmul, bool tail_agnostic, bool mask_agnostic,
+                            uint32_t answer, uint32_t vl, uint32_t vstart, uint64_t scalar, uint8_t *record,
+                            size_t record_len);
 
 #define RVGHASH_DIFFERS 256u /* replay: an answer byte differs from ours; no answer byte can be this number */
 
 /*
- * Replays a trace: one call of rvghash_execute for each record, in order, with the record's own vstart.
+ * Replays a trace: one call of rvghash_execute_policies for each record, in order, with the record's own policies and
+ * vstart.
  * Lent: file, file_len bytes; trace, of any length, only read; index, one number.
  * Done (0): every record's answer is ours, the file is as after these calls, and *index is the number of records.
  * Differs (256): *index is the first record, from 0, whose answer differs from ours, and the file is as before it.
- * Refused (14; the trace's length is no multiple of 24, or a zero byte in it is not zero): nothing ran, the file is as
+ * Refused (14; the trace's length is no multiple of 24, or a policy byte in it is over 3): nothing ran, the file is as
  * before, and *index is 0.
  * A VLEN or a file length that is not allowed is no refusal here: each call then answers 1, and a record may say so.
  * A trace that a version before 0.4.0 recorded may differ at a .vs word whose vs2 lies in vd's group after vd itself:

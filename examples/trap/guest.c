@@ -1,6 +1,7 @@
 /*
  * A guest for the handler in trap.c: hashes messages with the real instructions, which trap where the core lacks them,
- * and compares with the published hashes and with a product of its own. It ends with 1 if one differs.
+ * and compares with the published hashes and with a product of its own; then it looks at what the policies of vtype leave
+ * in a register group. It ends with 1 if something differs.
  */
 #define _GNU_SOURCE
 #include <signal.h>
@@ -25,6 +26,7 @@ typedef struct { uint8_t byte[16]; } __attribute__((aligned(16))) block;
 #define VCLMUL_VV (0x32002057ul | REGISTERS)
 #define VCLMULH_VV (0x36002057ul | REGISTERS)
 #define VCLMUL_VX (0x32006057ul | (24u << 20 | 10u << 15 | 8u << 7))
+#define VCLMUL_VX_MASKED (VCLMUL_VX & ~(1ul << 25))
 #define VCLMULH_VX (0x36006057ul | (24u << 20 | 10u << 15 | 8u << 7))
 
 /* The interrupted program uses vector instructions; no system call may come between its loads and its stores. */
@@ -264,6 +266,36 @@ static int run_long(const struct way *w)
     return run(w, "8 messages of 1,080 bytes, the first", m, LANES, right);
 }
 
+/* vclmul.vx on two elements of a group, both masked off: it writes what vtype's policies have it write, and nothing else. */
+static void masked_off(uint8_t *group, unsigned long vtype)
+{
+    VECTOR("vl8re8.v v8, (%0)\n vsetvl zero, %1, %2\n vmv.v.i v0, 0\n .insn 4, %3\n vs8r.v v8, (%0)\n",
+           : : "r"(group), "r"(2ul), "r"(vtype), "i"(VCLMUL_VX_MASKED) : "memory");
+}
+
+/* Every two policies: under ma the two elements become ones bits, under ta the rest of the group. */
+static int run_policies(size_t vlenb)
+{
+    enum { E64_M8 = 3 << 3 | 3, VTA = 1 << 6, VMA = 1 << 7, BODY = 16 };
+    uint8_t group[8 * 512 / 8], right[sizeof group];
+    int all = 1;
+    for (unsigned long policies = 0; policies <= (VTA | VMA); policies += VTA) {
+        memset(group, 0x55, sizeof group);
+        memset(right, 0x55, sizeof right);
+        if ((policies & VMA) != 0)
+            memset(right, 0xFF, BODY);
+        if ((policies & VTA) != 0)
+            memset(right + BODY, 0xFF, 8 * vlenb - BODY);
+        traps = 0;
+        masked_off(group, policies | E64_M8);
+        int ok = memcmp(group, right, sizeof group) == 0 && traps == 1;
+        printf("%-36s %-22s %5lu traps  %s, %s  %s\n", "2 elements that are masked off", "vclmul.vx", traps,
+               (policies & VTA) != 0 ? "ta" : "tu", (policies & VMA) != 0 ? "ma" : "mu", ok ? "obeyed" : "NOT obeyed");
+        all &= ok;
+    }
+    return all;
+}
+
 int main(void)
 {
     unsigned long vlenb;
@@ -277,5 +309,6 @@ int main(void)
     printf("VLEN %lu\n", 8 * vlenb);
     for (size_t i = 0; i < sizeof ways / sizeof ways[0]; i++)
         ok &= run_published(&ways[i]) & run_long(&ways[i]);
+    ok &= run_policies(vlenb);
     return ok ? 0 : 1;
 }

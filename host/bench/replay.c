@@ -19,7 +19,7 @@ static uint32_t load_4(const uint8_t *bytes)
 
 static uint64_t load_8(const uint8_t *bytes) { return load_4(bytes) | (uint64_t)load_4(bytes + 4) << 32; }
 
-/* The peer. It looks at no zero byte, and a record that differs has been executed when it is found. */
+/* The peer. It looks at no policy byte, and a record that differs has been executed when it is found. */
 static uint32_t loop(uint32_t vlen, uint8_t *file, size_t file_len, const uint8_t *trace, size_t trace_len,
                      size_t *index)
 {

@@ -231,7 +231,7 @@ static void report_replay(const struct plan *plan)
 {
     printf("\n## Replay\n\n"
            "One call of `rvghash_replay` over a whole trace, beside a loop in C over `rvghash_execute`. The loop reads a "
-           "record's\nfields, executes its word on the file and compares the answer; it does not look at the zero bytes "
+           "record's\nfields, executes its word on the file and compares the answer; it does not look at the policy bytes "
            "first, and a record\nthat differs has been executed when it is found. The traces are calls of "
            "`rvghash_execute` before the first round, and\nboth replays must end with the file that these left. A batch "
            "is at least one whole trace.\n\n"

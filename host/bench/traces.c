@@ -13,7 +13,7 @@
 
 enum { VD = 8, VS2 = 16, VS1 = 24 };
 
-/* What a call has beside the file; vstart is 0. */
+/* What a call has beside the file; vstart is 0, and both policies are off. */
 struct call {
     uint32_t word, sew, lmul, vl;
     uint64_t scalar;
@@ -82,7 +82,7 @@ static uint32_t record(struct trace *t, size_t place, struct call c)
     uint32_t vstart = 0;
     uint32_t answer =
         rvghash_execute(c.word, t->vlen, c.sew, c.lmul, c.vl, &vstart, c.scalar, t->after, RVGHASH_FILE_BYTES(t->vlen));
-    expect_done(rvghash_put_record(c.word, c.sew, c.lmul, answer, c.vl, 0, c.scalar,
+    expect_done(rvghash_put_record(c.word, c.sew, c.lmul, false, false, answer, c.vl, 0, c.scalar,
                                    t->bytes + place * RVGHASH_RECORD_BYTES, RVGHASH_RECORD_BYTES));
     return answer;
 }

@@ -1,14 +1,16 @@
 #!/usr/bin/env python3
 """Derive the register files that words leave, by a model of document 01 that shares nothing with the library.
 
-Before each call byte i of the file is (7 i + 3) mod 251, a pattern that the program makes again. Each row below gives the
-call and the number that document 01 answers, with document 02's Ask 4; the model gives the bytes, where that number is 0.
+Before each call byte i of the file is (7 i + 3) mod 251, a pattern that the program makes again and that has no byte FF. Each
+row below gives the call and the number that document 01 answers, with document 02's Asks 4 and 5; the model gives the bytes,
+where that number is 0.
 
 Usage: words.py [-o OUTPUT]
 OUTPUT is by default the file that the program known_words reads; SHA256SUMS has its checksum. It has a record a row, of
 numbers low byte first: group, word, VLEN, SEW, LMUL, vl, vstart (4 bytes each), scalar (8 bytes), length of the file, number,
-start and length of the bytes that change (4 bytes each); then those bytes as they should be. The last group asks for register
-groups: there the register stands in the word's place.
+start and length of the bytes that change, tail agnostic, mask agnostic (4 bytes each, the last two 0 or 1); then those bytes as
+they should be, from the first that changes to the last. Group 9 asks for register groups: there the register stands in the
+word's place.
 """
 
 import argparse
@@ -75,13 +77,18 @@ def xor(x, y):
     return bytes(a ^ b for a, b in zip(x, y))
 
 
-def execute(word, vlen, sew, vl, vstart, scalar, before):
-    """The file after a word that is not refused."""
+def execute(word, vlen, sew, lmul, vl, vstart, policies, scalar, before):
+    """The file after a word that is not refused; the policies are tail agnostic and mask agnostic."""
+    if vstart >= vl:
+        return before
+    tail_agnostic, mask_agnostic = policies
     ghash = word.name.startswith("vg")
     file, size, step = bytearray(before), 16 if ghash else sew // 8, 4 if ghash else 1
     place = lambda register, i: slice(register * vlen // 8 + i * size, register * vlen // 8 + (i + 1) * size)
     for i in range(vstart // step, vl // step):
         if word.vm == 0 and not before[i // 8] >> i % 8 & 1:
+            if mask_agnostic:
+                file[place(word.vd, i)] = b"\xff" * size
             continue
         source = 0 if word.name.endswith(".vs") else i
         vd, vs1, vs2 = before[place(word.vd, i)], before[place(word.vs1, i)], before[place(word.vs2, source)]
@@ -94,10 +101,16 @@ def execute(word, vlen, sew, vl, vstart, scalar, before):
             product = carry_less(int.from_bytes(vs2, "little"), other)
             result = ((product >> sew if "h." in word.name else product) % 2**sew).to_bytes(size, "little")
         file[place(word.vd, i)] = result
+    if tail_agnostic:
+        start, end = place(word.vd, vl // step).start, (word.vd + lmul) * vlen // 8
+        file[start:end] = b"\xff" * (end - start)
     return bytes(file)
 
 
-# ---- the rows: a word or its bits, VLEN, SEW, LMUL, vl, vstart, the number, and perhaps another length of the file
+# ---- the rows: a word or its bits, VLEN, SEW, LMUL, vl, vstart, the number, perhaps policies, and perhaps another length of the file
+
+# Tail agnostic, mask agnostic.
+OFF, TAIL, MASK, BOTH = (0, 0), (1, 0), (0, 1), (1, 1)
 
 VV = Word("vclmul.vv")
 GHASH = [Word(n) for n in ("vghsh.vv", "vghsh.vs", "vgmul.vv", "vgmul.vs")]
@@ -109,7 +122,7 @@ def at_vlmax():
         vlmax = lmul * vlen // sew
         yield VV, vlen, sew, lmul, vlmax, 0, 0
         yield VV, vlen, sew, lmul, vlmax + 1, 0, 3
-    yield GHASH[0], 512, 32, 8, 128, 0, 0
+    # At VLMAX this one is a row of ghash_words.
     yield GHASH[0], 512, 32, 8, 132, 0, 3
 
 
@@ -129,10 +142,10 @@ def register_31():
 
 def settings():
     for vlen in (64, 127, 129, 1024):
-        yield VV, vlen, 8, 1, 1, 1, 1, min(4 * vlen, 2048)
+        yield VV, vlen, 8, 1, 1, 1, 1, OFF, min(4 * vlen, 2048)
     for vlen in (128, 256, 512):
         for length in (4 * vlen - 1, 4 * vlen, 4 * vlen + 1):
-            yield VV, vlen, 8, 1, 16, 1, 0 if length == 4 * vlen else 1, length
+            yield VV, vlen, 8, 1, 16, 1, 0 if length == 4 * vlen else 1, OFF, length
     for sew in (0, 4, 24, 128):
         yield VV, 128, sew, 1, 1, 1, 3
     for lmul in (0, 3, 16):
@@ -163,7 +176,7 @@ def numbers_of_words():
 
 def smallest_of_several():
     """Each number with the next that can apply beside it."""
-    yield 0, 128, 24, 1, 4, 0, 1, 511
+    yield 0, 128, 24, 1, 4, 0, 1, OFF, 511
     yield 0, 128, 24, 1, 4, 0, 2
     yield GHASH[0], 128, 24, 1, 5, 0, 3
     yield GHASH[0], 128, 16, 1, 5, 0, 4
@@ -215,29 +228,117 @@ def register_groups():
     yield 64, 1, 30, 1
 
 
-GROUPS = [at_vlmax, ghash_vl_and_vstart, register_31, settings, numbers_of_words, smallest_of_several, carry_less_words, scalars, ghash_words]
+def tails():
+    """Each word, with a part of vd's group past vl."""
+    for name in CARRY_LESS:
+        for vlen, sew, lmul, vl, vstart in ((128, 64, 8, 15, 0), (256, 8, 1, 1, 0), (512, 16, 8, 101, 2)):
+            yield Word(name), vlen, sew, lmul, vl, vstart, 0, TAIL
+    for word in GHASH:
+        for vlen, lmul, vl, vstart in ((128, 8, 28, 0), (256, 1, 4, 0), (512, 8, 60, 8)):
+            yield word, vlen, 32, lmul, vl, vstart, 0, TAIL
 
 
-def record(group, word, vlen, sew, lmul, vl, vstart, number, length=None):
+def limits_of_tails():
+    """vl at, below and far below VLMAX, which is 8; vm is 1, so the mask policy does nothing."""
+    for vl, vstart in ((1, 0), (7, 6), (8, 0)):
+        yield VV, 128, 32, 2, vl, vstart, 0, BOTH
+    for word in GHASH:
+        yield word, 128, 32, 2, 4, 0, 0, MASK
+        yield word, 128, 32, 2, 8, 4, 0, BOTH
+
+
+def nothing_to_write():
+    """vstart at or past vl."""
+    for vl, vstart in ((0, 0), (0, 1), (5, 5), (5, 6), (5, 2**32 - 1), (8, 8)):
+        yield Word("vclmul.vv", vm=0), 128, 32, 2, vl, vstart, 0, BOTH
+    for word in (GHASH[0], GHASH[3]):
+        for vl, vstart in ((0, 0), (4, 4), (4, 8), (4, 2**32 - 4)):
+            yield word, 128, 32, 2, vl, vstart, 0, BOTH
+
+
+def masks():
+    """Each carry-less word with each of four ways, each at another width; the mask has zeros before vstart and after it."""
+    ways = ((0, MASK), (0, BOTH), (0, TAIL), (1, MASK))
+    for n, (vlen, sew, lmul) in enumerate(((512, 8, 8), (256, 16, 1), (512, 32, 2), (128, 64, 8))):
+        for k, (vm, policies) in enumerate(ways):
+            yield Word(CARRY_LESS[(n + k) % 4], vm=vm), vlen, sew, lmul, lmul * vlen // sew - 3, 3, 0, policies
+
+
+def places_of_tails():
+    """vd at both ends of the file, sources in vd's own group, keys beside it, and a scalar that counts as zero."""
+    yield Word("vclmul.vv", vd=0), 128, 8, 8, 5, 0, 0, BOTH
+    yield Word("vclmul.vv", vd=31), 256, 32, 1, 5, 0, 0, TAIL
+    yield Word("vclmul.vv", vd=16, vs2=16, vs1=16, vm=0), 128, 8, 2, 29, 0, 0, BOTH
+    yield Word("vghsh.vv", vd=16, vs2=16, vs1=16), 128, 32, 4, 8, 0, 0, BOTH
+    yield Word("vghsh.vs", vs2=10), 128, 32, 2, 4, 0, 0, BOTH
+    yield Word("vgmul.vs", vs2=7), 128, 32, 2, 4, 0, 0, BOTH
+    yield Word("vclmul.vx", vs1=0, vm=0), 128, 16, 2, 13, 1, 0, BOTH
+
+
+def refusals_with_policies():
+    """Numbers 1 to 8: nothing is filled, and vstart stays."""
+    at = (128, 32, 4, 8, 4)
+    yield VV, *at, 1, BOTH, 511
+    yield VV.bits ^ 1 << 27, *at, 2, BOTH
+    for sew, lmul, vl in ((24, 4, 8), (32, 3, 8), (32, 4, 17)):
+        yield VV, 128, sew, lmul, vl, 4, 3, BOTH
+    yield GHASH[0], 128, 64, 8, 8, 4, 4, BOTH
+    yield GHASH[0], 128, 32, 4, 9, 4, 5, BOTH
+    yield GHASH[0], 128, 32, 4, 8, 6, 5, BOTH
+    for word in (Word("vclmul.vv", vd=9), Word("vghsh.vv", vs2=18)):
+        yield word, *at, 6, BOTH
+    for word in (Word("vghsh.vs", vs2=11), Word("vgmul.vs", vs2=8)):
+        yield word, *at, 7, BOTH
+    for registers in ({"vd": 0}, {"vs2": 0}, {"vs1": 0}):
+        yield Word("vclmul.vv", vm=0, **registers), *at, 8, BOTH
+
+
+def with_policies():
+    for rows in (tails, limits_of_tails, nothing_to_write, masks, places_of_tails, refusals_with_policies):
+        yield from rows()
+
+
+GROUPS = [
+    at_vlmax,
+    ghash_vl_and_vstart,
+    register_31,
+    settings,
+    numbers_of_words,
+    smallest_of_several,
+    carry_less_words,
+    scalars,
+    ghash_words,
+    register_groups,
+    with_policies,
+]
+
+
+def record(group, word, vlen, sew, lmul, vl, vstart, number, policies=OFF, length=None):
     length = 4 * vlen if length is None else length
     before = bytes((7 * i + 3) % 251 for i in range(length))
-    after = execute(word, vlen, sew, vl, vstart, SCALAR, before) if number == 0 else before
+    after = execute(word, vlen, sew, lmul, vl, vstart, policies, SCALAR, before) if number == 0 else before
     assert len(after) == length
     changed = [i for i in range(length) if before[i] != after[i]]
     start, end = (changed[0], changed[-1] + 1) if changed else (0, 0)
     bits = word if isinstance(word, int) else word.bits
-    return packed(group, bits, vlen, sew, lmul, vl, vstart, length, number, start, after[start:end])
+    return packed(group, bits, vlen, sew, lmul, vl, vstart, length, number, start, policies, after[start:end])
 
 
-def packed(group, word, vlen, sew, lmul, vl, vstart, length, number, start, changed):
-    return struct.pack("<7IQ4I", group, word, vlen, sew, lmul, vl, vstart, SCALAR, length, number, start, len(changed)) + changed
+def packed(group, word, vlen, sew, lmul, vl, vstart, length, number, start, policies, changed):
+    head = (group, word, vlen, sew, lmul, vl, vstart, SCALAR, length, number, start, len(changed), *policies)
+    return struct.pack("<7IQ6I", *head) + changed
 
 
-def group_record(vlen, lmul, register, number, length=None):
+def group_record(group, vlen, lmul, register, number, length=None):
     """The bytes that change are the part, with the pattern (11 i + 5) mod 253 written to it."""
     part = bytes((11 * i + 5) % 253 for i in range(lmul * vlen // 8)) if number == 0 else b""
     start = register * vlen // 8 if number == 0 else 0
-    return packed(len(GROUPS), register, vlen, 0, lmul, 0, 0, 4 * vlen if length is None else length, number, start, part)
+    return packed(group, register, vlen, 0, lmul, 0, 0, 4 * vlen if length is None else length, number, start, OFF, part)
+
+
+def records(n, group):
+    make = group_record if group is register_groups else record
+    return [make(n, *row) for row in group()]
 
 
 def main():
@@ -245,9 +346,11 @@ def main():
     parser.add_argument("-o", "--output", default=OUTPUT)
     output = parser.parse_args().output
     assert Word("vghsh.vv", 4, 8, 12).bits == 0xB2862277 and Word("vclmul.vx", 1, 2, 3).bits == 0x3221E0D7
-    rows = [[record(n, *row) for row in group()] for n, group in enumerate(GROUPS)]
-    rows.append([group_record(*row) for row in register_groups()])
-    data = b"".join(b"".join(records) for records in rows)
+    rows = [records(n, group) for n, group in enumerate(GROUPS)]
+    calls = [r[4:] for group in rows for r in group]
+    assert len(set(calls)) == len(calls), "a row stands twice"
+    data = b"".join(b"".join(group) for group in rows)
+    assert len(data) <= 65536, "more than the program reads"
     with open(output, "wb") as f:
         f.write(data)
     print(f"records: {[len(r) for r in rows]}, bytes: {len(data)}, sha256: {hashlib.sha256(data).hexdigest()}")

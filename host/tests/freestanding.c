@@ -1,6 +1,6 @@
 /*
  * Links librvghash.a with -nostdlib: no C library, no start-up code, one memset of its own. The exit status is 0 if the word
- * vghsh.vv and a running hash (document 01's K14) come out right.
+ * vghsh.vv, the tail of its group and a running hash (document 01's K14) come out right.
  */
 #include "rvghash.h"
 
@@ -19,7 +19,9 @@ static int vector_word(void)
     memset(file, 0, sizeof file);
     file[8 * 16] = 0x40;
     file[12 * 16] = 0x80;
-    return rvghash_execute(0xB2862277, 128, 32, 1, 4, &vstart, 0, file, sizeof file) == RVGHASH_DONE && file[4 * 16] == 0x40;
+    return rvghash_execute(0xB2862277, 128, 32, 1, 4, &vstart, 0, file, sizeof file) == RVGHASH_DONE && file[4 * 16] == 0x40 &&
+           rvghash_execute_policies(0xB2862277, 128, 32, 2, true, false, 4, &vstart, 0, file, sizeof file) == RVGHASH_DONE &&
+           file[4 * 16] == 0x60 && file[5 * 16] == 0xFF;
 }
 
 static int running_hash(void)

@@ -128,6 +128,70 @@ static void vector(void)
     expect(start == 0 && length == 0, "no group has no bytes");
 }
 
+/* v0 is a mask of element 2 alone; each byte of v1 is 0x11, and of v2 it is 3. */
+static void fill_registers(uint8_t *file)
+{
+    memset(file, 0, RVGHASH_FILE_BYTES(128));
+    file[0] = 4;
+    memset(file + 16, 0x11, 16);
+    memset(file + 2 * 16, 3, 16);
+}
+
+/* vclmul.vx v1, v2, x3, v0.t on bytes, with vl 6: the answer. */
+static uint32_t masked(bool tail_agnostic, bool mask_agnostic, uint32_t sew, uint32_t *vstart, uint8_t *file)
+{
+    return rvghash_execute_policies(0x3021E0D7, 128, sew, 1, tail_agnostic, mask_agnostic, 6, vstart, 3, file,
+                                    RVGHASH_FILE_BYTES(128));
+}
+
+/* From vstart 1 on, element 2 is K1, 1 and 3 to 5 are masked off, and the tail begins at 6. Then what writes nothing. */
+static void policy(bool tail_agnostic, bool mask_agnostic)
+{
+    uint8_t file[RVGHASH_FILE_BYTES(128)], want[sizeof file], old[sizeof file];
+    uint32_t vstart = 1;
+    fill_registers(file);
+    fill_registers(want);
+    want[16 + 2] = 5;
+    if (mask_agnostic)
+        want[16 + 1] = want[16 + 3] = want[16 + 4] = want[16 + 5] = 0xFF;
+    if (tail_agnostic)
+        memset(want + 16 + 6, 0xFF, 10);
+    expect(masked(tail_agnostic, mask_agnostic, 8, &vstart, file) == RVGHASH_DONE && vstart == 0, "a masked word");
+    expect(memcmp(file, want, sizeof file) == 0, "what the policies fill with ones");
+    if (!tail_agnostic && !mask_agnostic) {
+        fill_registers(old);
+        vstart = 1;
+        expect(rvghash_execute(0x3021E0D7, 128, 8, 1, 6, &vstart, 3, old, sizeof old) == RVGHASH_DONE && vstart == 0 &&
+                   memcmp(old, want, sizeof old) == 0, "rvghash_execute is rvghash_execute_policies with both off");
+    }
+    fill_registers(file);
+    fill_registers(want);
+    vstart = 6;
+    expect(masked(tail_agnostic, mask_agnostic, 8, &vstart, file) == RVGHASH_DONE && vstart == 0, "vstart at vl");
+    vstart = 1;
+    expect(masked(tail_agnostic, mask_agnostic, 7, &vstart, file) == RVGHASH_BAD_SETTINGS && vstart == 1, "SEW 7");
+    expect(memcmp(file, want, sizeof file) == 0, "vstart at vl and a refusal write nothing, whatever the policies");
+    expect(rvghash_execute_policies(0x3021E0D7, 128, 8, 1, tail_agnostic, mask_agnostic, 6, &vstart, 3, NULL, 0) ==
+               RVGHASH_BAD_VLEN_OR_FILE && vstart == 1, "no file");
+}
+
+/* The masked word under every two policies; then vghsh.vv v4, v8, v12 at LMUL 4 on its first group: the tail is v5 to v7. */
+static void policies(void)
+{
+    uint8_t file[RVGHASH_FILE_BYTES(128)], ones[3 * 16];
+    uint32_t vstart = 0;
+    for (int p = 0; p <= (RVGHASH_TAIL_AGNOSTIC | RVGHASH_MASK_AGNOSTIC); p++)
+        policy((p & RVGHASH_TAIL_AGNOSTIC) != 0, (p & RVGHASH_MASK_AGNOSTIC) != 0);
+    memset(ones, 0xFF, sizeof ones);
+    memset(file, 0, sizeof file);
+    file[8 * 16] = 0x40;
+    file[12 * 16] = 0x80;
+    expect(rvghash_execute_policies(0xB2862277, 128, 32, 4, true, true, 4, &vstart, 0, file, sizeof file) == RVGHASH_DONE,
+           "vghsh.vv");
+    expect(is_block(file + 4 * 16, 0x40, 0) && memcmp(file + 5 * 16, ones, sizeof ones) == 0 && is_block(file + 8 * 16, 0x40, 0),
+           "the tail of vghsh.vv ends with its group");
+}
+
 /* The word of these fields, which must decode to them again; 0 where there is none. */
 static uint32_t written(uint32_t kind, uint32_t vm, uint32_t vs2, uint32_t vs1, uint32_t vd)
 {
@@ -198,29 +262,35 @@ static void texts(void)
 }
 
 /* Records a call: each byte of its word, vl, vstart and scalar is another one. */
-static uint32_t put(uint32_t sew, uint32_t lmul, uint32_t answer, uint8_t *record, size_t record_len)
+static uint32_t put(uint32_t sew, uint32_t lmul, uint32_t policies, uint32_t answer, uint8_t *record, size_t record_len)
 {
-    return rvghash_put_record(0x3221E0D7, sew, lmul, answer, 0x44332211, 0x88776655, 0xF0E1D2C3B4A59687, record, record_len);
+    return rvghash_put_record(0x3221E0D7, sew, lmul, (policies & RVGHASH_TAIL_AGNOSTIC) != 0,
+                              (policies & RVGHASH_MASK_AGNOSTIC) != 0, answer, 0x44332211, 0x88776655, 0xF0E1D2C3B4A59687,
+                              record, record_len);
 }
 
 /* The record's bytes, then what has no record, which leaves the bytes and the one after them. */
 static void record(void)
 {
-    static const uint8_t want[] = {0xD7, 0xE0, 0x21, 0x32, 253, 254, 255, 0, 0x11, 0x22, 0x33, 0x44, 0x55, 0x66, 0x77, 0x88,
-                                   0x87, 0x96, 0xA5, 0xB4, 0xC3, 0xD2, 0xE1, 0xF0, '#'};
+    uint8_t want[] = {0xD7, 0xE0, 0x21, 0x32, 253, 254, 255, 0, 0x11, 0x22, 0x33, 0x44, 0x55, 0x66, 0x77, 0x88,
+                      0x87, 0x96, 0xA5, 0xB4, 0xC3, 0xD2, 0xE1, 0xF0, '#'};
     const size_t length = RVGHASH_RECORD_BYTES;
     uint8_t bytes[RVGHASH_RECORD_BYTES + 1];
     memset(bytes, '#', sizeof bytes);
     expect(length == 24 && sizeof want == length + 1, "a record is 24 bytes");
     expect(RVGHASH_BAD_TRACE == 14 && RVGHASH_DIFFERS == 256, "the numbers of a trace");
-    expect(put(253, 254, 255, bytes, length) == RVGHASH_DONE, "a record");
-    expect(memcmp(bytes, want, sizeof want) == 0, "the record's bytes");
-    expect(put(256, 2, 3, bytes, length) == RVGHASH_BAD_TRACE, "SEW over 255");
-    expect(put(1, 256, 3, bytes, length) == RVGHASH_BAD_TRACE, "LMUL over 255");
-    expect(put(1, 2, 256, bytes, length) == RVGHASH_BAD_TRACE, "an answer over 255");
-    expect(put(1, 2, 3, bytes, length - 1) == RVGHASH_BAD_TRACE, "a short record");
-    expect(put(1, 2, 3, bytes, length + 1) == RVGHASH_BAD_TRACE, "a long record");
-    expect(put(1, 2, 3, NULL, 0) == RVGHASH_BAD_TRACE, "no record");
+    expect(RVGHASH_TAIL_AGNOSTIC == 1 && RVGHASH_MASK_AGNOSTIC == 2, "the policies in a record");
+    for (uint8_t p = 0; p <= 3; p++) {
+        want[7] = p;
+        expect(put(253, 254, p, 255, bytes, length) == RVGHASH_DONE, "a record");
+        expect(memcmp(bytes, want, sizeof want) == 0, "the record's bytes");
+    }
+    expect(put(256, 2, 0, 3, bytes, length) == RVGHASH_BAD_TRACE, "SEW over 255");
+    expect(put(1, 256, 0, 3, bytes, length) == RVGHASH_BAD_TRACE, "LMUL over 255");
+    expect(put(1, 2, 0, 256, bytes, length) == RVGHASH_BAD_TRACE, "an answer over 255");
+    expect(put(1, 2, 0, 3, bytes, length - 1) == RVGHASH_BAD_TRACE, "a short record");
+    expect(put(1, 2, 0, 3, bytes, length + 1) == RVGHASH_BAD_TRACE, "a long record");
+    expect(put(1, 2, 0, 3, NULL, 0) == RVGHASH_BAD_TRACE, "no record");
     expect(memcmp(bytes, want, sizeof want) == 0, "a refusal leaves the record");
 }
 
@@ -229,8 +299,8 @@ static uint32_t executed(uint32_t word, uint32_t vl, uint32_t vstart, uint64_t s
 {
     uint32_t after = vstart;
     uint32_t answer = rvghash_execute(word, 128, 8, 1, vl, &after, scalar, file, RVGHASH_FILE_BYTES(128));
-    expect(rvghash_put_record(word, 8, 1, answer, vl, vstart, scalar, record, RVGHASH_RECORD_BYTES) == RVGHASH_DONE,
-           "a call's record");
+    expect(rvghash_put_record(word, 8, 1, false, false, answer, vl, vstart, scalar, record, RVGHASH_RECORD_BYTES) ==
+               RVGHASH_DONE, "a call's record");
     return answer;
 }
 
@@ -267,8 +337,26 @@ static void replay(void)
     replayed(128, before, trace, sizeof trace, RVGHASH_DIFFERS, 1, between, "another answer in record 1");
     trace[6] = trace[RVGHASH_RECORD_BYTES + 6] = RVGHASH_BAD_VLEN_OR_FILE;
     replayed(129, before, trace, sizeof trace, RVGHASH_DONE, 2, before, "answers of 1 at VLEN 129");
-    trace[RVGHASH_RECORD_BYTES + 7] = 1;
-    replayed(128, before, trace, sizeof trace, RVGHASH_BAD_TRACE, 0, before, "a zero byte that is not zero, in record 1");
+    trace[RVGHASH_RECORD_BYTES + 7] = 4;
+    replayed(128, before, trace, sizeof trace, RVGHASH_BAD_TRACE, 0, before, "a policy byte of 4, in record 1");
+    trace[RVGHASH_RECORD_BYTES + 7] = 255;
+    replayed(128, before, trace, sizeof trace, RVGHASH_BAD_TRACE, 0, before, "a policy byte of 255, in record 1");
+}
+
+/* A masked word under each policy byte: a replay leaves what the call leaves. */
+static void replay_policies(void)
+{
+    uint8_t before[RVGHASH_FILE_BYTES(128)], after[sizeof before], record[RVGHASH_RECORD_BYTES];
+    for (int p = 0; p <= 3; p++) {
+        bool tail = (p & RVGHASH_TAIL_AGNOSTIC) != 0, mask = (p & RVGHASH_MASK_AGNOSTIC) != 0;
+        uint32_t vstart = 1;
+        fill_registers(before);
+        fill_registers(after);
+        expect(masked(tail, mask, 8, &vstart, after) == RVGHASH_DONE, "a masked word, to be recorded");
+        expect(rvghash_put_record(0x3021E0D7, 8, 1, tail, mask, RVGHASH_DONE, 6, 1, 3, record, sizeof record) == RVGHASH_DONE &&
+                   record[7] == p, "a policy byte");
+        replayed(128, before, record, sizeof record, RVGHASH_DONE, 1, after, "a replay under policies");
+    }
 }
 
 int main(void)
@@ -279,10 +367,12 @@ int main(void)
     fields();
     running();
     vector();
+    policies();
     words();
     texts();
     record();
     replay();
+    replay_policies();
     if (!failed)
         printf("header: the version, the layout, the constants and a call under every name hold\n");
     return failed;

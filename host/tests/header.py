@@ -25,8 +25,9 @@ KINDS_SOURCE = "crates/vector_kind/specs/Kinds.antt"
 STDINT = "".join(f"typedef __UINT{bits}_TYPE__ uint{bits}_t; typedef __INT{bits}_TYPE__ int{bits}_t;\n"
                  for bits in (8, 16, 32, 64))
 STDDEF = "typedef __SIZE_TYPE__ size_t;\n"
+STDBOOL = "typedef _Bool bool;\n"
 
-NUMBER_TYPES = {"u8": "uint8_t", "u32": "uint32_t", "u64": "uint64_t", "usize": "size_t", "()": "void"}
+NUMBER_TYPES = {"bool": "bool", "u8": "uint8_t", "u32": "uint32_t", "u64": "uint64_t", "usize": "size_t", "()": "void"}
 C_FIELDS = {"open_block": "open"}  # the fields that have another name in C: `open` is a word of the language antt
 
 
@@ -45,7 +46,7 @@ def kit_clang():
 def parsed(header):
     """The header's top declarations, as clang's JSON has them."""
     with tempfile.TemporaryDirectory() as folder:
-        for name, text in (("stdint.h", STDINT), ("stddef.h", STDDEF)):
+        for name, text in (("stdint.h", STDINT), ("stddef.h", STDDEF), ("stdbool.h", STDBOOL)):
             with open(os.path.join(folder, name), "w", encoding="utf-8") as file:
                 file.write(text)
         run = subprocess.run(
@@ -212,6 +213,11 @@ WRONG = [
     ("two numbers exchanged", {"SEW_NOT_32 = 4,": "SEW_NOT_32 = 5,", "NOT_MULTIPLE_OF_4 = 5,": "NOT_MULTIPLE_OF_4 = 4,"}),
     ("a key that is not const", {"const uint8_t *key": "uint8_t *key"}),
     ("SEW and LMUL exchanged", {"uint32_t sew, uint32_t lmul": "uint32_t lmul, uint32_t sew"}),
+    ("the executor's policies exchanged",
+     {"bool tail_agnostic,\n": "bool mask_agnostic,\n", "bool mask_agnostic, uint32_t vl": "bool tail_agnostic, uint32_t vl"}),
+    ("a record's policies exchanged", {"bool tail_agnostic, bool mask_agnostic": "bool mask_agnostic, bool tail_agnostic"}),
+    ("a policy of 32 bits", {"bool tail_agnostic": "uint32_t tail_agnostic"}),
+    ("a record without the mask policy", {"bool tail_agnostic, bool mask_agnostic": "bool tail_agnostic"}),
     ("another meaning", {"/* a key or block not 16 bytes long */": "/* a key or block not 8 bytes long */"}),
     ("a field of 64 bits", {"uint32_t a_count": "uint64_t a_count"}),
     ("a function that is not there", {"void rvghash_running_new": "void rvghash_reset(void);\nvoid rvghash_running_new"}),

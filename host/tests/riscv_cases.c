@@ -60,6 +60,9 @@ static uint32_t answer_of(const struct call *c, void *const b[MAX_LENT])
     case EXECUTE:
         return rvghash_execute((uint32_t)n[WORD], (uint32_t)n[VLEN], (uint32_t)n[SEW], (uint32_t)n[LMUL], (uint32_t)n[VL],
                                b[0], n[SCALAR], b[1], l[1]);
+    case EXECUTE_POLICIES:
+        return rvghash_execute_policies((uint32_t)n[WORD], (uint32_t)n[VLEN], (uint32_t)n[SEW], (uint32_t)n[LMUL],
+                                        n[TAIL_AGNOSTIC], n[MASK_AGNOSTIC], (uint32_t)n[VL], b[0], n[SCALAR], b[1], l[1]);
     case STEP_BACK: return rvghash_step_back(b[0], l[0], b[1], l[1], b[2], l[2], b[3], l[3]);
     case GHASH_FAST: return rvghash_ghash_fast(b[0], l[0], b[1], l[1], b[2], l[2], b[3], l[3]);
     case GHASH_PLAIN: return rvghash_ghash_plain(b[0], l[0], b[1], l[1], b[2], l[2], b[3], l[3]);
@@ -76,9 +79,9 @@ static uint32_t answer_of(const struct call *c, void *const b[MAX_LENT])
     case DISASSEMBLE: return rvghash_disassemble((uint32_t)n[WORD], b[0], l[0], b[1]);
     case ASSEMBLE: return rvghash_assemble(b[0], l[0], b[1]);
     case PUT_RECORD:
-        return rvghash_put_record((uint32_t)n[OF_WORD], (uint32_t)n[OF_SEW], (uint32_t)n[OF_LMUL],
-                                  (uint32_t)n[OF_ANSWER], (uint32_t)n[OF_VL], (uint32_t)n[OF_VSTART], n[OF_SCALAR],
-                                  b[0], l[0]);
+        return rvghash_put_record((uint32_t)n[OF_WORD], (uint32_t)n[OF_SEW], (uint32_t)n[OF_LMUL], n[OF_TAIL_AGNOSTIC],
+                                  n[OF_MASK_AGNOSTIC], (uint32_t)n[OF_ANSWER], (uint32_t)n[OF_VL],
+                                  (uint32_t)n[OF_VSTART], n[OF_SCALAR], b[0], l[0]);
     default: return rvghash_replay((uint32_t)n[0], b[0], l[0], b[1], l[1], b[2]);
     }
 }
@@ -145,7 +148,9 @@ int run(int argc, char **argv)
             return 1;
     }
     put("cases:");
-    int enough = told(" executions,", EXECUTE, EXECUTE, 20000) & told(" hashes,", GHASH_FAST, GHASH_PLAIN, 1000) &
+    int enough = told(" executions and", EXECUTE, EXECUTE, 20000) &
+                 told(" with policies,", EXECUTE_POLICIES, EXECUTE_POLICIES, 10000) &
+                 told(" hashes,", GHASH_FAST, GHASH_PLAIN, 1000) &
                  told(" step backs,", STEP_BACK, STEP_BACK, 1000) &
                  told(" calls on running hashes,", FEED_A, FINISH_PLAIN, 10000) &
                  told(" calls on words and texts,", ENCODE, ASSEMBLE, 20000) &

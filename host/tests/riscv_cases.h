@@ -5,7 +5,7 @@
 #include <stddef.h>
 #include <stdint.h>
 
-#define CASES_MAGIC "rvghash cases 1\n"
+#define CASES_MAGIC "rvghash cases 2\n"
 
 enum function {
     EXECUTE,
@@ -24,13 +24,26 @@ enum function {
     ASSEMBLE,
     PUT_RECORD,
     REPLAY,
+    EXECUTE_POLICIES,
     FUNCTIONS
 };
 
-enum scalar { WORD, VLEN, SEW, LMUL, VL, SCALAR }; /* of EXECUTE; its buffers are vstart and the file */
-enum field { KIND, VM, VS2, VS1, VD };             /* the scalars of ENCODE; DECODE and DISASSEMBLE have WORD */
+/* The scalars of EXECUTE, whose policies are 0, and of EXECUTE_POLICIES; the buffers are vstart and the file. */
+enum scalar { WORD, VLEN, SEW, LMUL, TAIL_AGNOSTIC, MASK_AGNOSTIC, VL, SCALAR };
+enum field { KIND, VM, VS2, VS1, VD }; /* the scalars of ENCODE; DECODE and DISASSEMBLE have WORD */
 /* The scalars of PUT_RECORD. REPLAY has VLEN alone; its buffers are the file, the trace and index. */
-enum record { OF_WORD, OF_SEW, OF_LMUL, OF_ANSWER, OF_VL, OF_VSTART, OF_SCALAR, MAX_SCALARS };
+enum record {
+    OF_WORD,
+    OF_SEW,
+    OF_LMUL,
+    OF_TAIL_AGNOSTIC,
+    OF_MASK_AGNOSTIC,
+    OF_ANSWER,
+    OF_VL,
+    OF_VSTART,
+    OF_SCALAR,
+    MAX_SCALARS
+};
 
 /* A buffer that the call is lent: its content, and the part of it that the call must change. */
 struct lent {

@@ -98,11 +98,11 @@ static int log2_of(uint64_t n)
     return -1;
 }
 
-/* vtype for SEW and LMUL with any policies; 0 where it has no code for them. */
+/* vtype for SEW, LMUL and the policies; 0 where it has no code for them. */
 static int vtype_of(const struct call *c, uint64_t *vtype)
 {
     int sew = log2_of(c->scalar[SEW]) - 3, lmul = log2_of(c->scalar[LMUL]);
-    *vtype = (any() & 0xC0) | (uint64_t)sew << 3 | (uint64_t)lmul;
+    *vtype = c->scalar[MASK_AGNOSTIC] << 7 | c->scalar[TAIL_AGNOSTIC] << 6 | (uint64_t)sew << 3 | (uint64_t)lmul;
     return sew >= 0 && sew <= 3 && lmul >= 0 && lmul <= 3;
 }
 
@@ -299,7 +299,7 @@ static void all_cases(const char *path)
         at = take_call(at, &c);
         if (at == NULL)
             fail("the file is not as the oracle writes it", call_name(turn));
-        if (c.function == EXECUTE) {
+        if (c.function == EXECUTE || c.function == EXECUTE_POLICIES) {
             trap_case(&c, call_name(turn));
             frame_case(&c, call_name(turn));
         }

@@ -1,6 +1,6 @@
 -- A record of data/words.bin (host/derive/words.py), and what its call should leave. A record begins with numbers, the lowest byte first.
 -- Assumes nothing.
-use mathlib.Core.Bool.{Bool, true, cond, _&&_}
+use mathlib.Core.Bool.{Bool, true, cond, not, _&&_}
 use mathlib.Core.List.{List, _++_}
 use mathlib.Core.Path.{_≡_}
 use Prim.Native.Nat.{ℕ, _+_, _%_, _^_, _≤_, min}
@@ -20,12 +20,19 @@ abbrev pub numberAt : List ℕ → ℕ → ℕ
 numberAt s at = readLe s at 4 % 2 ^ 32
 
 abbrev pub settingsAt : List ℕ → Settings
-settingsAt s =
-    record { vlen = numberAt s 8; sew = numberAt s 12; lmul = numberAt s 16; vl = numberAt s 20; vstart = numberAt s 24 }
+settingsAt s = record {
+  vlen = numberAt s 8;
+  sew = numberAt s 12;
+  lmul = numberAt s 16;
+  vta = not (eqb (numberAt s 52) 0);
+  vma = not (eqb (numberAt s 56) 0);
+  vl = numberAt s 20;
+  vstart = numberAt s 24;
+}
 
--- where the record that starts at `at` ends: 52 bytes, and the bytes that change; what is cut short ends where the bytes do
+-- where the record that starts at `at` ends: 60 bytes, and the bytes that change; what is cut short ends where the bytes do
 abbrev pub recordEnd : List ℕ → ℕ → ℕ
-recordEnd s at = min (min (at + 52) (length s) + readLe s (at + 48) 4) (length s)
+recordEnd s at = min (min (at + 60) (length s) + readLe s (at + 48) 4) (length s)
 
 -- the length of the file
 abbrev pub fileLength : List ℕ → ℕ

@@ -1,5 +1,6 @@
 -- Document 01's marked cases on words: K1 to K5 on one element, and K12.
 -- Assumes nothing.
+use mathlib.Core.Bool.{false}
 use mathlib.Core.List.{List}
 use mathlib.Core.Path.{_≡_}
 use Prim.Native.Nat.{ℕ, _/_}
@@ -14,7 +15,7 @@ use Rattle.known_words.specs.Call.{before}
 
 -- the settings of a word on one element of registers of 16 bytes
 abbrev pub oneElement : ℕ → Settings
-oneElement sew = record { vlen = 128; sew = sew; lmul = 1; vl = 1; vstart = 0 }
+oneElement sew = record { vlen = 128; sew = sew; lmul = 1; vta = false; vma = false; vl = 1; vstart = 0 }
 
 -- n bytes of the file: a in element 0 of v2, b in that of v3
 abbrev pub elements : ℕ → ℕ → ℕ → ℕ → List ℕ

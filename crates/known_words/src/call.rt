@@ -7,7 +7,7 @@ use octets_le::read_le;
 use vector_registers::settings::Settings;
 
 // The bytes before those that change.
-pub const HEAD: usize = 52;
+pub const HEAD: usize = 60;
 
 // What the file holds before a call.
 pub const BEFORE: Pattern = Pattern(3, 7, 251);
@@ -33,6 +33,8 @@ pub fn settings_at(s: &[u8]) -> Settings
         vlen: number_at(s, 8),
         sew: number_at(s, 12),
         lmul: number_at(s, 16),
+        vta: number_at(s, 52) != 0,
+        vma: number_at(s, 56) != 0,
         vl: number_at(s, 20),
         vstart: number_at(s, 24),
     }

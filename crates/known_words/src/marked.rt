@@ -52,6 +52,8 @@ fn executes(word: u32, sew: u32, file: &mut [u8]) -> bool
         vlen: 128,
         sew,
         lmul: 1,
+        vta: false,
+        vma: false,
         vl: 1,
         vstart: 0,
     };

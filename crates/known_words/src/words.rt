@@ -131,7 +131,7 @@ fn line(name: &[u8], group: u32, tried: u64, s: &[u8]) {
 }
 
 fn refusals(s: &[u8]) {
-    line(b"vl = VLMAX and VLMAX + 1", 0, 10, s);
+    line(b"vl = VLMAX and VLMAX + 1", 0, 9, s);
     line(b"vl and vstart of a GHASH word", 1, 36, s);
     line(b"Register 31 with LMUL 1 and 2", 2, 8, s);
     line(b"VLEN, SEW, LMUL and the length of the file", 3, 28, s);
@@ -144,6 +144,7 @@ fn values(s: &[u8]) {
     line(b"Scalars of .vx words", 7, 32, s);
     line(b"GHASH words", 8, 28, s);
     line(b"Register groups, asked for and written", GROUPS, 21, s);
+    line(b"Tail and mask policies", 10, 87, s);
 }
 
 fn all(s: &[u8]) {

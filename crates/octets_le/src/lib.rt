@@ -23,7 +23,7 @@ pub fn read_le(s: &[u8], at: usize, n: usize) -> u64
 }
 
 // Sets the byte at a place, if it is there.
-fn put_byte(s: &mut [u8], at: usize, b: u8)
+pub fn put_byte(s: &mut [u8], at: usize, b: u8)
     ensures { λ _. ⌜ now (s .exit) ≡ set (now (s .entry)) at b ⌝ }
 {
     if at < s.len() {

@@ -1,4 +1,5 @@
 // The executor and the group question.
+ghost use mathlib.Core.Bool.{false};
 ghost use mathlib.Core.Path.{_≡_};
 ghost use lib.ListN.{length};
 ghost use Rattle.vector_group.specs.Group.{groupRefusal, partStart, partLength};
@@ -10,6 +11,21 @@ use vector_group::group_refusal;
 use vector_group::part_of;
 use vector_registers::settings::Settings;
 
+fn settings(vlen: u32, sew: u32, lmul: u32, vta: bool, vma: bool, vl: u32, vstart: u32) -> Settings
+    ensures { λ s. ⌜ s ≡ settingsOf vlen sew lmul vta vma vl vstart ⌝ }
+{
+    Settings {
+        vlen,
+        sew,
+        lmul,
+        vta,
+        vma,
+        vl,
+        vstart,
+    }
+}
+
+// With both policies off.
 #[no_mangle]
 pub extern "C" fn rvghash_execute(
     word: u32,
@@ -21,17 +37,34 @@ pub extern "C" fn rvghash_execute(
     scalar: u64,
     file: &mut [u8],
 ) -> u32
-    ensures { λ r. ⌜ (r ≡ refusalOf (length (now (file .entry))) word (settingsOf vlen sew lmul vl (now (vstart .entry))))
-        × (now (vstart .exit) ≡ vstartAfter (length (now (file .entry))) word (settingsOf vlen sew lmul vl (now (vstart .entry))))
-        × (now (file .exit) ≡ executed word (settingsOf vlen sew lmul vl (now (vstart .entry))) scalar (now (file .entry))) ⌝ }
+    ensures { λ r. ⌜ (r ≡ refusalOf (length (now (file .entry))) word (settingsOf vlen sew lmul false false vl (now (vstart .entry))))
+        × (now (vstart .exit) ≡ vstartAfter (length (now (file .entry))) word (settingsOf vlen sew lmul false false vl (now (vstart .entry))))
+        × (now (file .exit) ≡ executed word (settingsOf vlen sew lmul false false vl (now (vstart .entry))) scalar (now (file .entry))) ⌝ }
 {
-    let s = Settings {
-        vlen,
-        sew,
-        lmul,
-        vl,
-        vstart: *vstart,
-    };
+    let s = settings(vlen, sew, lmul, false, false, vl, *vstart);
+    let done = execute(word, s, scalar, file);
+    *vstart = done.vstart;
+    done.number
+}
+
+#[no_mangle]
+pub extern "C" fn rvghash_execute_policies(
+    word: u32,
+    vlen: u32,
+    sew: u32,
+    lmul: u32,
+    tail_agnostic: bool,
+    mask_agnostic: bool,
+    vl: u32,
+    vstart: &mut u32,
+    scalar: u64,
+    file: &mut [u8],
+) -> u32
+    ensures { λ r. ⌜ (r ≡ refusalOf (length (now (file .entry))) word (settingsOf vlen sew lmul «tail_agnostic» «mask_agnostic» vl (now (vstart .entry))))
+        × (now (vstart .exit) ≡ vstartAfter (length (now (file .entry))) word (settingsOf vlen sew lmul «tail_agnostic» «mask_agnostic» vl (now (vstart .entry))))
+        × (now (file .exit) ≡ executed word (settingsOf vlen sew lmul «tail_agnostic» «mask_agnostic» vl (now (vstart .entry))) scalar (now (file .entry))) ⌝ }
+{
+    let s = settings(vlen, sew, lmul, tail_agnostic, mask_agnostic, vl, *vstart);
     let done = execute(word, s, scalar, file);
     *vstart = done.vstart;
     done.number

@@ -1,14 +1,12 @@
 -- A carry-less word's fold: each active element in range gets the result computed from the file at entry, and every other byte stays.
 -- vd may be vs1 or vs2: element i is read before it is written, and no later one reads it.
 -- Assumes nothing.
-use mathlib.Core.Bool.{Bool, true, false, cond, _||_}
+use mathlib.Core.Bool.{Bool, true, false, cond}
 use mathlib.Core.List.{List}
 use mathlib.Core.Path.{_≡_, refl, sym, ap, ap₂, subst, _∙_}
-use Prim.Native.Nat.{ℕ, _+_, _*_, _/_, _%_, _^_, _<_, _≤_}
-use native.Mathlib.Nat.{mod-lt, mod-eq-of-lt, mul-le-mul-right, one-mul, suc-mul}
+use Prim.Native.Nat.{ℕ, _+_, _*_, _/_, _^_, _<_, _≤_}
+use native.Mathlib.Nat.{mod-lt, mod-eq-of-lt}
 use native.Mathlib.Omega.{arith}
-use borrow.Author.Tests.{eqb-false}
-use lib.Dec.{eqb}
 use lib.ListN.{length}
 use lib.Pow.{pow-pos}
 use Rattle.vector_registers.specs.declared.settings.Settings.{Settings}
@@ -20,13 +18,13 @@ use Rattle.vector_clmul.specs.declared.Multiplier.{Multiplier}
 use Rattle.vector_clmul.specs.declared.Multiplier.the-variants.{Vs1, Scalar}
 use Rattle.vector_product.specs.Clmul.{halfOf, clmul64}
 use Rattle.octets.specs.LittleEndian.{readLe, writeLe}
-use Rattle.vector_element.specs.Element.{elementAt, maskBit}
-use Rattle.vector_clmul.specs.Carryless.{active, element, multiplierOf, carrylessResult, carrylessStep, carryless}
+use Rattle.vector_element.specs.Element.{elementAt, active}
+use Rattle.vector_clmul.specs.Carryless.{element, multiplierOf, carrylessResult, carrylessStep, carryless}
 use Rattle.theorems.specs.Execution.{Done}
 use Rattle.octets.proofs.BigEndian.{bytes-bits}
 use Rattle.octets.proofs.LittleEndian.{readLe-same, writeLe-length, writeLe-other, writeLe-read}
 use Rattle.theorems.proofs.Fold.{Except, Does, fold-done}
-use Rattle.theorems.proofs.Registers.{Aligned, Ready, element-fits, unread}
+use Rattle.theorems.proofs.Registers.{Aligned, Ready, element-fits, element-apart, active-same, unread}
 
 -- a multiplier that is a register group is aligned
 abbrev pub AlignedMultiplier : Multiplier → Fields → Settings → Type 0
@@ -61,9 +59,6 @@ module _
     abbrev place : ℕ → ℕ
     place i = elementAt (s .vlen) (s .sew) (f .vd) i
 
-    apart : (i j : ℕ) → i < j → place i + s .sew / 8 ≤ place j
-    apart i j h = omega (arith, suc-mul i (s .sew / 8), mul-le-mul-right (s .sew / 8) h)
-
     -- element i of a group is as at entry while only elements before i have been written
     source : (r i : ℕ) (g : List ℕ) → Aligned s r → i < s .vl → Except file g (place (s .vstart)) (place i) → element s g r i ≡ element s file r i
     source r i g al h x =
@@ -82,15 +77,8 @@ module _
     result-same i g h x = ap₂ (λ (a b : ℕ). halfOf which (s .sew) (clmul64 a b)) (multiplier-same i g h x) (source (f .vs2) i g vs2-aligned h x)
 
     -- so are the mask bits, which are not in vd's group
-    active-same : (i : ℕ) (g : List ℕ) → i < s .vl → Except file g (place (s .vstart)) (place i) → active f g i ≡ active f file i
-    unfolding maskBit
-    active-same i g h x = go (eqb (f .vm) 1) refl
-      where
-        go : (b : Bool) → eqb (f .vm) 1 ≡ b → b || eqb (maskBit g i) 1 ≡ (b || eqb (maskBit file i) 1)
-        go true e = refl
-        go false e =
-            ap (λ (y : ℕ). eqb (y / 2 ^ (i % 8) % 2) 1)
-            (x .same (i / 8) (λ b. omega (arith, ready .masks-fit, mul-le-mul-right (registerBytes (s .vlen)) (unmasked (eqb-false (f .vm) 1 e)), one-mul (registerBytes (s .vlen)))))
+    still-active : (i : ℕ) (g : List ℕ) → i < s .vl → Except file g (place (s .vstart)) (place i) → active f g i ≡ active f file i
+    still-active i g h x = active-same f s ready unmasked g file (λ p l. x .same p (λ b. omega (arith, b))) i h
 
     result-lt : (i : ℕ) → carrylessResult which m f s file i < 256 ^ (s .sew / 8)
     unfolding carrylessResult
@@ -104,7 +92,7 @@ module _
     step i g lo hi x =
         let room : place i + s .sew / 8 ≤ length g = omega (arith, x .same-length, element-fits s ready i hi, ready .in-file (f .vd) vd-small vd-aligned) in
         subst (λ (next : List ℕ). Does g next (place i) (s .sew / 8) (active f file i) (λ h. element s h (f .vd) i) (carrylessResult which m f s file i))
-        (sym (ap₂ (λ (a : Bool) (v : ℕ). cond a (writeLe (s .sew / 8) g (place i) v) g) (active-same i g hi x) (result-same i g hi x)))
+        (sym (ap₂ (λ (a : Bool) (v : ℕ). cond a (writeLe (s .sew / 8) g (place i) v) g) (still-active i g hi x) (result-same i g hi x)))
         (write-does g (place i) (s .sew / 8) (carrylessResult which m f s file i) (active f file i) room (result-lt i))
 
     pub elements-done : Done file (carryless which m f s file) (s .vstart) (s .vl) (s .sew / 8) place (active f file)
@@ -112,4 +100,4 @@ module _
     unfolding carryless
     elements-done =
         fold-done file place (s .sew / 8) (s .vstart) (s .vl) (carrylessStep which m f s) (active f file) (λ i g. element s g (f .vd) i)
-        (carrylessResult which m f s file) apart (λ g h i e. readLe-same g h (place i) (s .sew / 8) e) step
+        (carrylessResult which m f s file) (element-apart s (f .vd)) (λ g h i e. readLe-same g h (place i) (s .sew / 8) e) step

@@ -19,6 +19,7 @@ use Rattle.gf128.proofs.Tests.{and-left, and-right}
 use Rattle.vector_registers.specs.declared.settings.Settings.{Settings}
 use Rattle.vector_group.specs.Group.{groupRefusal, partStart, partLength}
 use Rattle.vector_word.specs.declared.Fields.{Fields}
+use Rattle.vector_kind.specs.declared.Kind.{Kind}
 use Rattle.vector_kind.specs.declared.Kind.the-variants.{VclmulVv, VclmulVx, VclmulhVv, VclmulhVx, VghshVv, VghshVs, VgmulVv, VgmulVs}
 use Rattle.vector_kind.specs.Kinds.{kindNumber}
 use Rattle.vector_word.specs.declared.Encoded.{Encoded}
@@ -42,6 +43,7 @@ use Rattle.vector_element.specs.Steps.{steps}
 use Rattle.vector_ghash.specs.declared.GhashMultiplier.{GhashMultiplier}
 use Rattle.vector_ghash.specs.declared.GhashMultiplier.the-variants.{YXorX, YAlone}
 use Rattle.vector_ghash.specs.GhashWords.{group, multiplierOf, vvStep, vsStep, ghashVv, ghashVs}
+use Rattle.vector_fill.specs.Fill.{onesBetween, maskStep, maskFilled, tailFilled, filled}
 use Rattle.vector_execute.specs.Execute.{doneKnown, done, executed, vstartAfter}
 use Rattle.theorems.specs.Examples.{Example, call, known, word, encodes, decodes, lists, lists-as, lists-into, reads, question, part, times, hash, backward, out, written, state, feeds, finishes, degree, degreeOfBytes, back, pieces, sums, four, execution, running, file, table, Holds, ExamplesHold}
 use Rattle.theorems.proofs.Marked.{same, numbersOf, goesBack, same-at, is-word, goes-back}
@@ -54,31 +56,38 @@ ghashBy p m f s key bytes =
     steps (λ i b. putBlock b (blockPlace (s .vlen) (f .vd) i) (p (multiplierOf m f s b i) (key i b)))
     (s .vl / 4 - s .vstart / 4) (s .vstart / 4) bytes
 
+unitsBy : (ℕ → ℕ → ℕ) → Kind → Fields → Settings → ℕ → List ℕ → List ℕ
+unitsBy p VclmulVv f s scalar bytes = doneKnown VclmulVv f s scalar bytes
+unitsBy p VclmulVx f s scalar bytes = doneKnown VclmulVx f s scalar bytes
+unitsBy p VclmulhVv f s scalar bytes = doneKnown VclmulhVv f s scalar bytes
+unitsBy p VclmulhVx f s scalar bytes = doneKnown VclmulhVx f s scalar bytes
+unitsBy p VghshVv f s scalar bytes = ghashBy p YXorX f s (λ i b. group s b (f .vs2) i) bytes
+unitsBy p VghshVs f s scalar bytes = ghashBy p YXorX f s (λ i b. group s bytes (f .vs2) 0) bytes
+unitsBy p VgmulVv f s scalar bytes = ghashBy p YAlone f s (λ i b. group s b (f .vs2) i) bytes
+unitsBy p VgmulVs f s scalar bytes = ghashBy p YAlone f s (λ i b. group s bytes (f .vs2) 0) bytes
+
 doneBy : (ℕ → ℕ → ℕ) → Word → Settings → ℕ → List ℕ → List ℕ
 doneBy p Unknown s scalar bytes = bytes
-doneBy p (Known VclmulVv f) s scalar bytes = doneKnown VclmulVv f s scalar bytes
-doneBy p (Known VclmulVx f) s scalar bytes = doneKnown VclmulVx f s scalar bytes
-doneBy p (Known VclmulhVv f) s scalar bytes = doneKnown VclmulhVv f s scalar bytes
-doneBy p (Known VclmulhVx f) s scalar bytes = doneKnown VclmulhVx f s scalar bytes
-doneBy p (Known VghshVv f) s scalar bytes = ghashBy p YXorX f s (λ i b. group s b (f .vs2) i) bytes
-doneBy p (Known VghshVs f) s scalar bytes = ghashBy p YXorX f s (λ i b. group s bytes (f .vs2) 0) bytes
-doneBy p (Known VgmulVv f) s scalar bytes = ghashBy p YAlone f s (λ i b. group s b (f .vs2) i) bytes
-doneBy p (Known VgmulVs f) s scalar bytes = ghashBy p YAlone f s (λ i b. group s bytes (f .vs2) 0) bytes
+doneBy p (Known k f) s scalar bytes = filled f s (unitsBy p k f s scalar bytes)
 
 executedBy : (ℕ → ℕ → ℕ) → ℕ → Settings → ℕ → List ℕ → List ℕ
 executedBy p w s scalar bytes = cond (eqb (refusalOf (length bytes) w s) 0) (doneBy p (decode w) s scalar bytes) bytes
 
+units-by : (k : Kind) (f : Fields) (s : Settings) (scalar : ℕ) (bytes : List ℕ) → unitsBy product k f s scalar bytes ≡ doneKnown k f s scalar bytes
+unfolding unitsBy ghashBy ghashVv ghashVs vvStep vsStep
+units-by VclmulVv f s scalar bytes = refl
+units-by VclmulVx f s scalar bytes = refl
+units-by VclmulhVv f s scalar bytes = refl
+units-by VclmulhVx f s scalar bytes = refl
+units-by VghshVv f s scalar bytes = refl
+units-by VghshVs f s scalar bytes = refl
+units-by VgmulVv f s scalar bytes = refl
+units-by VgmulVs f s scalar bytes = refl
+
 done-by : (w : Word) (s : Settings) (scalar : ℕ) (bytes : List ℕ) → doneBy product w s scalar bytes ≡ done w s scalar bytes
-unfolding doneBy ghashBy ghashVv ghashVs vvStep vsStep
+unfolding doneBy
 done-by Unknown s scalar bytes = refl
-done-by (Known VclmulVv f) s scalar bytes = refl
-done-by (Known VclmulVx f) s scalar bytes = refl
-done-by (Known VclmulhVv f) s scalar bytes = refl
-done-by (Known VclmulhVx f) s scalar bytes = refl
-done-by (Known VghshVv f) s scalar bytes = refl
-done-by (Known VghshVs f) s scalar bytes = refl
-done-by (Known VgmulVv f) s scalar bytes = refl
-done-by (Known VgmulVs f) s scalar bytes = refl
+done-by (Known k f) s scalar bytes = ap (filled f s) (units-by k f s scalar bytes)
 
 quick-executed : (w : ℕ) (s : Settings) (scalar : ℕ) (bytes : List ℕ) → executedBy quickProduct w s scalar bytes ≡ executed w s scalar bytes
 unfolding executedBy executed
@@ -258,5 +267,5 @@ shows (execution w s scalar before changed vstart) t =
     )
 
 pub examples : ExamplesHold
-unfolding table allRight right same finished numbersOf readBy text fieldsIn goesBack decode refusalOf refusalOfKnown groupRefusal numberOf file quickXOf quickSteps quickProduct beAt beBytes highest degreeOf coeffOf executedBy doneBy ghashBy steps clmul clmul64 clmul8 sum readLe writeLe maskBit carrylessResult carrylessStep carryless
+unfolding table allRight right same finished numbersOf readBy text fieldsIn goesBack decode refusalOf refusalOfKnown groupRefusal numberOf file quickXOf quickSteps quickProduct beAt beBytes highest degreeOf coeffOf executedBy doneBy unitsBy ghashBy onesBetween maskStep maskFilled tailFilled filled steps clmul clmul64 clmul8 sum readLe writeLe maskBit carrylessResult carrylessStep carryless
 examples = record { rows = refl; all = all-show Holds right shows table tt }

@@ -1,7 +1,7 @@
--- A word that is not refused does what document 01 says, unit by unit (`every-unit`, `every-other-byte`): each active element or group
--- in range holds the result computed from the file at entry, and every other byte is as at entry. Nothing is asked of vd, vs1 and vs2
--- beyond the refusals: vd equal to vs1 or vs2 is no exception. Where vstart is at or past vl, the
--- file stays (`file-stays`); if no refusal applies, the answer is 0 then, and vstart becomes 0 (`nothing-done`).
+-- The active units of a word that is not refused do what document 01 says (`units-done`): each active element or group in range holds the
+-- result computed from the file at entry, and every other byte is as at entry, before the policies fill it (`Policies`). Nothing is asked
+-- of vd, vs1 and vs2 beyond the refusals: vd equal to vs1 or vs2 is no exception. Where vstart is at or past vl, the file stays whatever
+-- the policies (`file-stays`); if no refusal applies, the answer is 0 then, and vstart becomes 0 (`nothing-done`).
 -- Assumes nothing.
 use mathlib.Core.Bool.{Bool, true, false, cond, _&&_, _||_}
 use mathlib.Core.List.{List}
@@ -9,9 +9,9 @@ use mathlib.Core.Path.{_≡_, refl, sym, ap, subst, _∙_}
 use Prim.Native.Nat.{ℕ, _-_, _/_, _<_, _≤_}
 use native.Mathlib.Nat.{pos-of-ne-zero, le-of-suc-le-suc}
 use native.Mathlib.Omega.{arith}
-use borrow.Author.Tests.{eqb-false, eq-eqb}
-use lib.Dec.{eqb}
-use lib.ListN.{length, getD}
+use borrow.Author.Tests.{eqb-false, eq-eqb, le-leb}
+use lib.Dec.{eqb, leb}
+use lib.ListN.{length}
 use Rattle.octets.specs.Bytes.{AreBytes}
 use Rattle.vector_registers.specs.declared.settings.Settings.{Settings}
 use Rattle.vector_word.specs.declared.Fields.{Fields}
@@ -22,28 +22,29 @@ use Rattle.vector_word.specs.declared.Word.the-variants.{Known, Unknown}
 use Rattle.vector_registers.specs.Settings.{applies1, applies3}
 use Rattle.vector_refusal.specs.Refusal.{applies4, applies5, applies6, applies7, applies8, refusalOfKnown, refusalOfWord, refusalOf}
 use Rattle.vector_word.specs.Word.{decode}
-use Rattle.vector_word.proofs.Tests.{or-false, pick-next}
+use Rattle.vector_word.proofs.Tests.{or-false, pick-here, pick-next}
 use Rattle.vector_product.specs.declared.clmul.Half.{Half}
 use Rattle.vector_product.specs.declared.clmul.Half.the-variants.{Low, High}
 use Rattle.vector_clmul.specs.declared.Multiplier.{Multiplier}
 use Rattle.vector_clmul.specs.declared.Multiplier.the-variants.{Vs1, Scalar}
 use Rattle.vector_ghash.specs.declared.GhashMultiplier.the-variants.{YXorX, YAlone}
-use Rattle.vector_element.specs.Element.{elementAt}
+use Rattle.vector_element.specs.Element.{elementAt, active}
 use Rattle.vector_element.specs.Steps.{steps}
-use Rattle.vector_clmul.specs.Carryless.{active, element, scalarOf, carrylessResult, carrylessStep, carryless}
+use Rattle.vector_clmul.specs.Carryless.{element, scalarOf, carrylessResult, carrylessStep, carryless}
 use Rattle.vector_ghash.specs.GhashWords.{group, vvStep, vsStep, ghashVv, ghashVs}
+use Rattle.vector_fill.specs.Fill.{filled}
 use Rattle.vector_execute.specs.Execute.{doneKnown, done, executed, vstartAfter}
 use Rattle.vector_execute.proofs.Admitted.{Admitted, admitted-as, performed}
 use Rattle.vector_element.proofs.Steps.{none-left}
 use Rattle.vector_word.proofs.Writer.{FieldsFit, decoded-fit}
-use Rattle.theorems.specs.Execution.{firstUnit, pastUnit, activeUnit, unitBytes, unitPlace, unitOf, resultOf, Within, Done, WordDone}
+use Rattle.theorems.specs.Execution.{Done, WordDone}
 use Rattle.theorems.proofs.Elements.{AlignedMultiplier, elements-done}
 use Rattle.theorems.proofs.Groups.{vv-done, vs-done}
 use Rattle.theorems.proofs.Places.{sew32, settings, vd-of, vs1-of, vs2-of}
 use Rattle.theorems.proofs.Registers.{Aligned}
 
 -- refusal 8: with vm 0, vd is not the mask register
-unmasked : (vm vd : ℕ) (rest : Bool) → vm ≤ 1 → eqb vm 0 && (eqb vd 0 || rest) ≡ false → (vm ≡ 1 → ⊥) → 0 < vd
+pub unmasked : (vm vd : ℕ) (rest : Bool) → vm ≤ 1 → eqb vm 0 && (eqb vd 0 || rest) ≡ false → (vm ≡ 1 → ⊥) → 0 < vd
 unmasked vm vd rest small h ne =
     let z : vm ≡ 0 = omega arith in
     pos-of-ne-zero (eqb-false vd 0 (or-false (eqb vd 0) rest (subst (λ (b : Bool). b && (eqb vd 0 || rest) ≡ false) (eq-eqb vm 0 z) h) .0))
@@ -71,25 +72,11 @@ module _ (f : Fields) (s : Settings) (scalar : ℕ) (file : List ℕ) (bytes : A
       vv-done YAlone f s file bytes (settings a) (le-of-suc-le-suc (n .vd)) (vd-of a) tt (sew32 (s .sew) (a .not4)) (vs2-of a refl)
   by-kind VgmulVs a = vs-done YAlone f s file bytes (settings a) (le-of-suc-le-suc (n .vd)) (vd-of a) tt (sew32 (s .sew) (a .not4))
 
-module _
-    (word : ℕ) (s : Settings) (scalar : ℕ) (file : List ℕ) (bytes : AreBytes file) (number : refusalOf (length file) word s ≡ 0)
-    (k : Kind) (f : Fields) (known : decode word ≡ Known k f)
-  where
-    pub word-done : WordDone k f s scalar file (executed word s scalar file)
-    word-done =
-        subst (WordDone k f s scalar file) (ap (λ (w : Word). done w s scalar file) (sym known) ∙ performed word s scalar file number .1)
-        (by-kind f s scalar file bytes (decoded-fit word known) k (admitted-as (length file) word s known number))
-
-    -- each active element or group in range holds the result computed from the file at entry
-    pub every-unit : (i : ℕ) → firstUnit k s ≤ i → i < pastUnit k s → activeUnit k f file i ≡ true
-        → unitOf k f s i (executed word s scalar file) ≡ resultOf k f s scalar file i
-    every-unit = word-done .results
-
-    -- every other byte is as at entry
-    pub every-other-byte : (p : ℕ)
-        → ((i : ℕ) → firstUnit k s ≤ i → i < pastUnit k s → activeUnit k f file i ≡ true → Within (unitPlace k f s i) (unitBytes k s) p → ⊥)
-        → getD (executed word s scalar file) p 0 ≡ getD file p 0
-    every-other-byte = word-done .others
+-- the active units of a word that is not refused
+pub units-done : (word : ℕ) (s : Settings) (scalar : ℕ) (file : List ℕ) → AreBytes file → refusalOf (length file) word s ≡ 0
+    → (k : Kind) (f : Fields) → decode word ≡ Known k f → WordDone k f s scalar file (doneKnown k f s scalar file)
+units-done word s scalar file bytes number k f known =
+    by-kind f s scalar file bytes (decoded-fit word known) k (admitted-as (length file) word s known number)
 
 -- a word of the eight to which no refusal applies is not refused
 none-applies : (fileLength word : ℕ) (s : Settings) {k : Kind} {f : Fields} → decode word ≡ Known k f → Admitted fileLength k f s
@@ -124,8 +111,9 @@ module _ (s : Settings) (scalar : ℕ) (file : List ℕ) (past : s .vl ≤ s .vs
   idle VgmulVs f = no-groups (vsStep (group s file (f .vs2) 0) YAlone f s)
 
   idle-word : (w : Word) → done w s scalar file ≡ file
+  unfolding filled
   idle-word Unknown = refl
-  idle-word (Known k f) = idle k f
+  idle-word (Known k f) = sym (pick-here (leb (s .vl) (s .vstart)) (doneKnown k f s scalar file) _ (le-leb (s .vl) (s .vstart) past)) ∙ idle k f
 
   -- where vstart is at or past vl, the file stays
   pub file-stays : (word : ℕ) → executed word s scalar file ≡ file

@@ -2,13 +2,16 @@ pub mod Changed
 pub mod Elements
 pub mod Examples
 pub mod Execution
+pub mod Filled
 pub mod Fold
 pub mod Groups
 pub mod Marked
 pub mod Overlap
 pub mod Places
+pub mod Policies
 pub mod Pseudocode
 pub mod Registers
 pub mod Reversal
 pub mod Rows
 pub mod Witnesses
+pub mod WithoutPolicies

@@ -32,8 +32,10 @@ use Rattle.vector_ghash.specs.declared.GhashMultiplier.the-variants.{YXorX, YAl
 use Rattle.vector_ghash.specs.GhashWords.{vsStep, ghashVs}
 use Rattle.vector_execute.specs.Execute.{doneKnown, done}
 use Rattle.vector_execute.proofs.Admitted.{Admitted, past-six, admitted-as, performed}
-use Rattle.theorems.specs.Execution.{pastUnit, unitBytes, unitPlace, Within}
-use Rattle.theorems.specs.Overlap.{InVdGroup, keyBytes, InKey, KeyOverlaps, SevenIsOverlap, WritesMissKey, keyIn, KeyStays}
+use Rattle.theorems.specs.Execution.{Within, InVdGroup}
+use Rattle.theorems.specs.Overlap.{keyBytes, InKey, KeyOverlaps, SevenIsOverlap, WritesMissKey, keyIn, KeyStays}
+use Rattle.vector_fill.specs.Fill.{filled}
+use Rattle.theorems.proofs.Filled.{filled-outside}
 use Rattle.theorems.proofs.Places.{sew32, settings}
 use Rattle.theorems.proofs.Registers.{Ready, ready, group-fits}
 
@@ -138,12 +140,14 @@ module _ {fileLength : ℕ} {k : Kind} {f : Fields} {s : Settings} (a : Admitted
   free : occupies (s .lmul) (f .vd) (f .vs2) ≡ false
   free = subst (λ (b : Bool). b && occupies (s .lmul) (f .vd) (f .vs2) ≡ false) vs (a .not7)
 
+  outside : (p : ℕ) → InVdGroup f s p → InKey f s p → ⊥
+  outside p w key = true≢false (sym (met f s (settings a .sixteen) p key w) ∙ free)
+
   misses : (i : ℕ) → i < s .vl / 4 → (p : ℕ) → Within (blockPlace (s .vlen) (f .vd) i) 16 p → InKey f s p → ⊥
   misses i h p w key =
       let is32 : s .sew ≡ 32 = sew32 (s .sew) (subst (λ (b : Bool). b && not (eqb (s .sew) 32) ≡ false) (each-vs (λ (k : Kind). isGhash k ≡ true) refl refl k vs) (a .not4)) in
       let fits = group-fits s (settings a) is32 i h in
-      let inside : InVdGroup f s p = (omega arith, omega arith) in
-      true≢false (sym (met f s (settings a .sixteen) p key inside) ∙ free)
+      outside p (omega arith, omega arith) key
 
   kept : (m : GhashMultiplier) (h n i : ℕ) (g : List ℕ) → s .vstart / 4 ≤ i → i + n ≤ s .vstart / 4 + (s .vl / 4 - s .vstart / 4)
       → keyIn f s (steps (vsStep h m f s) n i g) ≡ keyIn f s g
@@ -167,17 +171,17 @@ word-keeps k f s scalar file vs =
     (λ a. steps-keep a refl YAlone file (s .vl / 4 - s .vstart / 4) (omega arith)) k vs
 
 pub writes-miss-key : WritesMissKey
-writes-miss-key fileLength word s number k f known vs i h p =
-    each-vs
-    (λ (k : Kind). Admitted fileLength k f s → i < pastUnit k s → Within (unitPlace k f s i) (unitBytes k s) p → InKey f s p → ⊥)
-    (λ a l. misses a refl i l p) (λ a l. misses a refl i l p) k vs (admitted-as fileLength word s known number) (omega (arith, h))
+writes-miss-key fileLength word s number k f known vs = outside (admitted-as fileLength word s known number) vs
 
 pub key-stays : KeyStays
 key-stays word s scalar file number k f known vs =
     let a = admitted-as (length file) word s known number in
+    let g = doneKnown k f s scalar file in
     record {
       between = λ m n h. steps-keep a vs m file n (omega (arith, h));
       after =
           ap (keyIn f s) (sym (performed word s scalar file number .1) ∙ ap (λ (w : Word). done w s scalar file) known)
+          ∙ beAt-same (filled f s g) g (blockPlace (s .vlen) (f .vs2) 0) 16
+          (λ p key. filled-outside f s (settings a) g p (λ w. outside a vs p w key))
           ∙ word-keeps k f s scalar file vs a;
     }

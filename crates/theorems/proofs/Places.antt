@@ -61,6 +61,7 @@ module _ {fileLength : ℕ} {k : Kind} {f : Fields} {s : Settings} (a : Admitted
     vs1 = λ e. inside (f .vs1) (le-of-suc-le-suc (n .vs1)) (vs1-of e);
     vs2 = λ e. inside (f .vs2) (le-of-suc-le-suc (n .vs2)) (vs2-of e);
     key = λ e. omega (arith, settings .register-in-file (f .vs2) (le-of-suc-le-suc (n .vs2)), settings .sixteen);
+    tail = λ p h. omega (arith, h, settings .in-file (f .vd) (le-of-suc-le-suc (n .vd)) vd-of);
     mask = λ i h.
         let here : i / 8 < registerBytes (s .vlen) = omega (arith, settings .masks-fit) in
         (here, omega (arith, settings .register-in-file 0 (omega arith), zero-mul (registerBytes (s .vlen))));

@@ -34,14 +34,14 @@ use Rattle.vector_product.specs.declared.clmul.Half.{Half}
 use Rattle.vector_product.specs.declared.clmul.Half.the-variants.{Low, High}
 use Rattle.vector_product.specs.Clmul as Clmul
 use Rattle.vector_product.specs.Clmul.{clmul64, lowHalf, highHalf, halfOf}
-use Rattle.vector_element.specs.Element.{elementAt, blockPlace}
+use Rattle.vector_element.specs.Element.{elementAt, blockPlace, active}
 use Rattle.vector_element.specs.Steps.{steps}
 use Rattle.vector_product.proofs.Bilinear.{whole, sum-lt}
 use Rattle.vector_product.proofs.Carryless.{bitOf, bit-lt}
 use Rattle.vector_product.proofs.Sew.{SewFacts}
 use Rattle.vector_clmul.specs.declared.Multiplier.{Multiplier}
 use Rattle.vector_clmul.specs.declared.Multiplier.the-variants.{Vs1, Scalar}
-use Rattle.vector_clmul.specs.Carryless.{active, element, scalarOf, carrylessResult, carrylessStep, carryless}
+use Rattle.vector_clmul.specs.Carryless.{element, scalarOf, carrylessResult, carrylessStep, carryless}
 use Rattle.vector_ghash.specs.declared.GhashMultiplier.{GhashMultiplier}
 use Rattle.vector_ghash.specs.declared.GhashMultiplier.the-variants.{YXorX, YAlone}
 use Rattle.vector_ghash.specs.GhashWords.{group, multiplierOf, vvStep, vsStep, ghashVv, ghashVs}
@@ -50,7 +50,9 @@ use Rattle.vector_execute.proofs.Admitted.{Admitted, admitted-as, performed}
 use Rattle.vector_word.proofs.Writer.{FieldsFit, decoded-fit}
 use Rattle.theorems.specs.Execution.{unitOf, resultOf}
 use Rattle.theorems.specs.Pseudocode.{_!_, _xor_, shl, shr, turns, foreach, brev8, reversed, «get_velem», «set_velem», «X», «zext_or_truncate_to_sew», clmul, clmulh, Suffix, vv, vx, ifVv, VCLMUL, VCLMULH, EGW, multiplied, VGHSH, VGHSHVS, VGMUL, VGMULVV, pseudocode, FollowsPseudocode, widthOf, given, ElementsFollowPseudocode}
-use Rattle.theorems.proofs.Execution.{every-unit}
+use Rattle.vector_fill.specs.Fill.{filled}
+use Rattle.theorems.proofs.Filled.{filled-bytes}
+use Rattle.theorems.proofs.Policies.{bytes-of-words}
 use Rattle.theorems.proofs.Places.{sew32, settings, sews, vd-of}
 use Rattle.theorems.proofs.Registers.{Aligned, Ready, group-fits}
 use Rattle.theorems.proofs.Reversal.{turns-states, if-bit, reversed-xor, multiplied-is-product, brev8-xor, brev8-twice, brev8-read, write-brev8}
@@ -305,13 +307,15 @@ module _ (word : ℕ) (s : Settings) (scalar : ℕ) (file : List ℕ) (bytes : A
   entry : Kept file file
   entry = record { same-length = refl; bytes = bytes }
 
-  the-word : executed word s scalar file ≡ doneKnown k f s scalar file
+  -- what the active units leave is the pseudocode's, and bytes
+  units : (doneKnown k f s scalar file ≡ pseudocode k f s scalar file) × Kept file (doneKnown k f s scalar file)
+  units = by-kind f s scalar file (decoded-fit word known) entry k (admitted-as (length file) word s known number)
+
+  the-word : executed word s scalar file ≡ filled f s (doneKnown k f s scalar file)
   the-word = sym (performed word s scalar file number .1) ∙ ap (λ (w : Word). done w s scalar file) known
 
-  follows : (executed word s scalar file ≡ pseudocode k f s scalar file) × Kept file (executed word s scalar file)
-  follows =
-      let p = by-kind f s scalar file (decoded-fit word known) entry k (admitted-as (length file) word s known number) in
-      (the-word ∙ p .0, subst (Kept file) (sym the-word) (p .1))
+  out-bytes : AreBytes (executed word s scalar file)
+  out-bytes = subst AreBytes (sym the-word) (filled-bytes f s (doneKnown k f s scalar file) (units .1 .bytes))
 
   -- what an element or element group holds
   element-is : (i : ℕ) → unitOf k f s i (executed word s scalar file) ≡ resultOf k f s scalar file i
@@ -325,14 +329,15 @@ module _ (word : ℕ) (s : Settings) (scalar : ℕ) (file : List ℕ) (bytes : A
       go VclmulVx a e = e ∙ result-is f s scalar file (settings a) (sews a) Low vx file entry i
       go VclmulhVv a e = e ∙ result-is f s scalar file (settings a) (sews a) High vv file entry i
       go VclmulhVx a e = e ∙ result-is f s scalar file (settings a) (sews a) High vx file entry i
-      go VghshVv a e = holds f s YXorX file (executed word s scalar file) (entry .bytes) (follows .1 .bytes) i i e
-      go VghshVs a e = holds f s YXorX file (executed word s scalar file) (entry .bytes) (follows .1 .bytes) i 0 e
-      go VgmulVv a e = holds f s YAlone file (executed word s scalar file) (entry .bytes) (follows .1 .bytes) i i e
-      go VgmulVs a e = holds f s YAlone file (executed word s scalar file) (entry .bytes) (follows .1 .bytes) i 0 e
+      go VghshVv a e = holds f s YXorX file (executed word s scalar file) (entry .bytes) out-bytes i i e
+      go VghshVs a e = holds f s YXorX file (executed word s scalar file) (entry .bytes) out-bytes i 0 e
+      go VgmulVv a e = holds f s YAlone file (executed word s scalar file) (entry .bytes) out-bytes i i e
+      go VgmulVs a e = holds f s YAlone file (executed word s scalar file) (entry .bytes) out-bytes i 0 e
 
 pub follows-pseudocode : FollowsPseudocode
-follows-pseudocode word s scalar file bytes number k f known = follows word s scalar file bytes number k f known .0
+follows-pseudocode word s scalar file bytes number k f known =
+    the-word word s scalar file bytes number k f known ∙ ap (filled f s) (units word s scalar file bytes number k f known .0)
 
 pub elements-follow : ElementsFollowPseudocode
 elements-follow word s scalar file bytes number k f known i lo hi on =
-    element-is word s scalar file bytes number k f known i (every-unit word s scalar file bytes number k f known i lo hi on)
+    element-is word s scalar file bytes number k f known i (bytes-of-words word s scalar file bytes number k f known .results i lo hi on)

@@ -1,21 +1,25 @@
 -- Register groups of words that are not refused: a group lies in the file, and two groups are equal or apart, so that bytes of another
 -- group are never among those of the units written before (`unread`).
 -- Assumes nothing.
-use mathlib.Core.Bool.{true, false, not, _||_}
+use mathlib.Core.Bool.{Bool, true, false, not, _||_}
+use mathlib.Core.List.{List}
 use mathlib.Core.Logic.{⊎-elim}
 use mathlib.Core.Path.{_≡_, refl, sym, ap, subst}
-use Prim.Native.Nat.{ℕ, _+_, _*_, _/_, _%_, _<_, _≤_}
+use Prim.Native.Nat.{ℕ, _+_, _*_, _/_, _%_, _^_, _<_, _≤_}
 use native.Mathlib.Decide.{decLe}
-use native.Mathlib.Nat.{le-div-iff-mul-le, div-add-mod', mul-le-mul-right, suc-mul, le-mul-of-pos-right, le-trans, lt-of-not-le, mul-left-comm, add-mul, eq-or-lt-of-le, le-of-eq}
+use native.Mathlib.Nat.{le-div-iff-mul-le, div-add-mod', mul-le-mul-right, suc-mul, le-mul-of-pos-right, le-trans, lt-of-not-le, mul-left-comm, add-mul, eq-or-lt-of-le, le-of-eq, one-mul}
 use native.Mathlib.Omega.{arith}
-use borrow.Author.Tests.{eqb-true, ltb-false, not-false}
+use borrow.Author.Tests.{eqb-true, eqb-false, ltb-false, not-false}
 use lib.Dec.{eqb, ltb}
+use lib.ListN.{getD}
 use Rattle.vector_registers.specs.declared.settings.Settings.{Settings}
 use Rattle.vector_registers.specs.Settings.{applies1, applies3, registerBytes, fileBytes, groupRegisters, groupLength, timesLmul, vlenAllowed, sewAllowed, lmulAllowed, vlmax, misaligned}
 use Rattle.vector_registers.proofs.Allowed.{each-vlen, each-sew, each-group, times-lmul}
 use Rattle.vector_group.proofs.Groups.{last-register, registers-within}
 use Rattle.vector_word.proofs.Tests.{or-false}
 use Rattle.vector_product.proofs.Sew.{sew-facts}
+use Rattle.vector_word.specs.declared.Fields.{Fields}
+use Rattle.vector_element.specs.Element.{elementAt, maskBit, active}
 use Rattle.theorems.specs.Execution.{Within}
 
 -- ---- what the settings tell
@@ -95,6 +99,24 @@ pub group-fits : {fileLength : ℕ} (s : Settings) → Ready fileLength s → s 
 group-fits s ready sew32 i h =
     let fits : s .vl * 4 ≤ groupLength (s .vlen) (s .lmul) = subst (λ (w : ℕ). s .vl * (w / 8) ≤ groupLength (s .vlen) (s .lmul)) sew32 (ready .elements-fit) in
     omega arith
+
+-- elements of a register group stand one after the other
+pub element-apart : (s : Settings) (r i j : ℕ) → i < j → elementAt (s .vlen) (s .sew) r i + s .sew / 8 ≤ elementAt (s .vlen) (s .sew) r j
+element-apart s r i j h = omega (arith, suc-mul i (s .sew / 8), mul-le-mul-right (s .sew / 8) h)
+
+-- an element is active by its mask bit in any file that agrees with this one before vd's group: refusal 8 keeps the mask out of it
+pub active-same : {fileLength : ℕ} (f : Fields) (s : Settings) → Ready fileLength s → ((f .vm ≡ 1 → ⊥) → 0 < f .vd)
+    → (g h : List ℕ) → ((p : ℕ) → p < f .vd * registerBytes (s .vlen) → getD g p 0 ≡ getD h p 0)
+    → (i : ℕ) → i < s .vl → active f g i ≡ active f h i
+unfolding maskBit
+active-same f s ready unmasked g h same i l = go (eqb (f .vm) 1) refl
+  where
+    go : (b : Bool) → eqb (f .vm) 1 ≡ b → b || eqb (maskBit g i) 1 ≡ (b || eqb (maskBit h i) 1)
+    go true e = refl
+    go false e =
+        let first = mul-le-mul-right (registerBytes (s .vlen)) (unmasked (eqb-false (f .vm) 1 e)) in
+        ap (λ (y : ℕ). eqb (y / 2 ^ (i % 8) % 2) 1)
+        (same (i / 8) (omega (arith, ready .masks-fit, first, one-mul (registerBytes (s .vlen)))))
 
 -- ---- what the fields tell
 

@@ -1,20 +1,19 @@
 -- One changed byte is one changed block: `any-byte-of-a`, `any-byte-of-c`; `any-nonzero-key`; and `witnesses`, which are some of them.
 -- Assumes nothing.
 use mathlib.Core.Path.{_≡_, refl, sym, ap, _∙_, subst}
-use mathlib.Core.Logic.{_≢_, _⊎_, inl, inr, ⊎-elim}
-use mathlib.Core.Bool.{Bool, true, false}
-use borrow.Author.Tests.{eqb-true, eqb-false}
+use mathlib.Core.Logic.{_≢_, _⊎_, ⊎-elim}
 use mathlib.Core.List.{List, [], _∷_, _++_}
 use Prim.Native.Nat.{ℕ, zero, suc, _+_, _*_, _/_, _%_, _<_, _≤_, suc-le-suc}
 use native.Mathlib.Nat.{add-zero, zero-add, mod-lt, zero-lt-suc, not-suc-le-zero, le-of-suc-le-suc, suc-ne-zero, suc-inj, eq-or-lt-of-le, ne-of-lt, le-refl}
 use native.Mathlib.Omega.{arith}
 use lib.Arith.{digits-div, digits-mod}
-use lib.Dec.{eqb, lit<, lit≤}
+use lib.Dec.{lit<, lit≤}
 use lib.ListN.{length, getD, set, replicate, length-replicate, getD-replicate, length-append, length-set, List·getD-append}
 use lib.Seq.{getD-set-same, getD-set-other}
 use Rattle.octets.specs.BigEndian.{beAt}
 use Rattle.octets.specs.Bytes.{AreBytes}
 use Rattle.octets.proofs.BigEndian.{be-same, bytes-inside}
+use Rattle.octets.proofs.LittleEndian.{set-bytes}
 use Rattle.gf128.specs.Bytes.{blockAt}
 use Rattle.gf128.specs.Differ.{DifferOnce}
 use Rattle.gf128.specs.Hash.{blocksFrom, blocksOf}
@@ -92,19 +91,9 @@ block-same s t j (suc n) (suc k) e =
     let q : j + suc k ≡ j + 1 + k = omega arith in
     block-same s t (j + 1) n k (subst (λ (i : ℕ). blockAt s (16 * i) ≡ blockAt t (16 * i)) q e)
 
-eq-or-ne : (j i : ℕ) → (j ≡ i) ⊎ (j ≢ i)
-eq-or-ne j i = go (eqb j i) refl
-  where
-    go : (t : Bool) → eqb j i ≡ t → (j ≡ i) ⊎ (j ≢ i)
-    go true e = inl (eqb-true j i e)
-    go false e = inr (eqb-false j i e)
-
 module _ (s : List ℕ) (i b : ℕ) (bytes : AreBytes s) (inside : i < length s) (byte : b < 256) (other : getD s i 0 ≢ b) where
   bytes-set : AreBytes (set s i b)
-  bytes-set j = ⊎-elim
-      (λ e. subst (λ (k : ℕ). getD (set s i b) k 0 < 256) (sym e) (subst (λ (v : ℕ). v < 256) (sym (getD-set-same s i b 0 inside)) byte))
-      (λ n. subst (λ (v : ℕ). v < 256) (sym (getD-set-other s i j b 0 n)) (bytes j))
-      (eq-or-ne j i)
+  bytes-set = set-bytes s i b byte bytes
 
   differs-once : DifferOnce (blocksOf s) (blocksOf (set s i b))
   unfolding blocksOf

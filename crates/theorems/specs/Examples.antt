@@ -27,11 +27,20 @@ use Rattle.vector_reader.specs.Reading.{Reads}
 use Rattle.vector_refusal.specs.Refusal.{refusalOf, refusalOfKnown}
 use Rattle.vector_product.specs.Pieces.{clmul8, sumOfProducts, evenProducts}
 use Rattle.vector_execute.specs.Execute.{executed, vstartAfter}
+use Rattle.theorems.specs.Policies.{withPolicies}
 use Rattle.theorems.specs.Rows.{AllHold}
 
--- VLEN, SEW, LMUL, vl and vstart
+-- VLEN, SEW, LMUL, vl and vstart, with both policies off
 abbrev pub settings : ℕ → ℕ → ℕ → ℕ → ℕ → Settings
-settings vlen sew lmul vl vstart = record { vlen = vlen; sew = sew; lmul = lmul; vl = vl; vstart = vstart }
+settings vlen sew lmul vl vstart =
+    record { vlen = vlen; sew = sew; lmul = lmul; vta = false; vma = false; vl = vl; vstart = vstart }
+
+-- with tail agnostic, and with mask agnostic
+abbrev pub ta : Settings → Settings
+ta s = withPolicies true (s .vma) s
+
+abbrev pub ma : Settings → Settings
+ma s = withPolicies (s .vta) true s
 
 -- a running hash whose open block has this byte at this place, and zeros elsewhere
 abbrev pub running : (y phase countA countC place byte : ℕ) → State
@@ -653,6 +662,81 @@ table =
     ∷ execution 0xA288A277 (settings 128 32 2 4 2) 0
     ((4, 0x80000000000000000000000000000001) ∷ (8, 0x40000000000000000000000000000000) ∷ [])
     [] 2
+    -- Ask 5, the tail of vclmul.vx v4, v8, x31: ones bits from element vl on; none where vl is VLMAX
+    ∷ execution 0x328FE257 (ta (settings 128 8 1 2 0)) 3
+    ((4, 0x11111111111111111111111111111111) ∷ (8, 0x030580FF000000000000000000000000) ∷ [])
+    ((4, 0x050FFFFFFFFFFFFFFFFFFFFFFFFFFFFF) ∷ []) 0
+    ∷ execution 0x328FE257 (ta (settings 128 8 1 15 0)) 3
+    ((4, 0x11111111111111111111111111111111) ∷ (8, 0x030580FF000000000000000000000000) ∷ [])
+    ((4, 0x050F80010000000000000000000000FF) ∷ []) 0
+    ∷ execution 0x328FE257 (ta (settings 128 8 1 16 0)) 3
+    ((4, 0x11111111111111111111111111111111) ∷ (8, 0x030580FF000000000000000000000000) ∷ [])
+    ((4, 0x050F8001000000000000000000000000) ∷ []) 0
+    -- elements before vstart stay
+    ∷ execution 0x328FE257 (ta (settings 128 8 1 2 1)) 3
+    ((4, 0x11111111111111111111111111111111) ∷ (8, 0x030580FF000000000000000000000000) ∷ [])
+    ((4, 0x110FFFFFFFFFFFFFFFFFFFFFFFFFFFFF) ∷ []) 0
+    -- to the end of the group and no further
+    ∷ execution 0x328FE257 (ta (settings 128 8 2 2 0)) 3
+    ((4, 0x11111111111111111111111111111111) ∷ (8, 0x030580FF000000000000000000000000) ∷ [])
+    ((4, 0x050FFFFFFFFFFFFFFFFFFFFFFFFFFFFF) ∷ (5, 0xFFFFFFFFFFFFFFFFFFFFFFFFFFFFFFFF) ∷ []) 0
+    ∷ execution 0x328FE257 (ta (settings 128 8 4 49 48)) 3
+    ((4, 0x11111111111111111111111111111111) ∷ (8, 0x030580FF000000000000000000000000) ∷ [])
+    ((7, 0xEFFFFFFFFFFFFFFFFFFFFFFFFFFFFFFF) ∷ []) 0
+    -- with vstart at or past vl, vl 0 too, nothing is written
+    ∷ execution 0x328FE257 (ta (ma (settings 128 8 1 0 0))) 3
+    ((4, 0x11111111111111111111111111111111) ∷ (8, 0x030580FF000000000000000000000000) ∷ [])
+    [] 0
+    ∷ execution 0x328FE257 (ta (ma (settings 128 8 1 2 2))) 3
+    ((4, 0x11111111111111111111111111111111) ∷ (8, 0x030580FF000000000000000000000000) ∷ [])
+    [] 0
+    ∷ execution 0x328FE257 (ta (ma (settings 128 8 1 2 3))) 3
+    ((4, 0x11111111111111111111111111111111) ∷ (8, 0x030580FF000000000000000000000000) ∷ [])
+    [] 0
+    -- a refusal writes nothing: vl over VLMAX
+    ∷ execution 0x328FE257 (ta (ma (settings 128 8 1 17 1))) 3
+    ((4, 0x11111111111111111111111111111111) ∷ (8, 0x030580FF000000000000000000000000) ∷ [])
+    [] 1
+    -- the mask of vclmul.vv v4, v8, v12, v0.t: of elements 1 to 5 the masked-off ones, 2 and 4; element 0 stays, masked off or not
+    ∷ execution 0x30862257 (ma (settings 128 8 1 6 1)) 0
+    ((0, 0x2BFF0000000000000000000000000000) ∷ (4, 0x11111111111111111111111111111111) ∷ (8, 0x03FF8080FFFF03000000000000000000) ∷
+    (12, 0x0303FF8002FF03000000000000000000) ∷ [])
+    ((4, 0x1101FF00FF5511111111111111111111) ∷ []) 0
+    ∷ execution 0x30862257 (ma (settings 128 8 1 6 1)) 0
+    ((0, 0x2AFF0000000000000000000000000000) ∷ (4, 0x11111111111111111111111111111111) ∷ (8, 0x03FF8080FFFF03000000000000000000) ∷
+    (12, 0x0303FF8002FF03000000000000000000) ∷ [])
+    ((4, 0x1101FF00FF5511111111111111111111) ∷ []) 0
+    -- by the tail policy alone these stay, and by both they do not
+    ∷ execution 0x30862257 (ta (settings 128 8 1 6 1)) 0
+    ((0, 0x2BFF0000000000000000000000000000) ∷ (4, 0x11111111111111111111111111111111) ∷ (8, 0x03FF8080FFFF03000000000000000000) ∷
+    (12, 0x0303FF8002FF03000000000000000000) ∷ [])
+    ((4, 0x110111001155FFFFFFFFFFFFFFFFFFFF) ∷ []) 0
+    ∷ execution 0x30862257 (ta (ma (settings 128 8 1 6 1))) 0
+    ((0, 0x2BFF0000000000000000000000000000) ∷ (4, 0x11111111111111111111111111111111) ∷ (8, 0x03FF8080FFFF03000000000000000000) ∷
+    (12, 0x0303FF8002FF03000000000000000000) ∷ [])
+    ((4, 0x1101FF00FF55FFFFFFFFFFFFFFFFFFFF) ∷ []) 0
+    -- with vm 1 the mask policy does nothing
+    ∷ execution 0x32862257 (ma (settings 128 8 1 6 1)) 0
+    ((0, 0x00FF0000000000000000000000000000) ∷ (4, 0x11111111111111111111111111111111) ∷ (8, 0x03FF8080FFFF03000000000000000000) ∷
+    (12, 0x0303FF8002FF03000000000000000000) ∷ [])
+    ((4, 0x11018000FE5511111111111111111111) ∷ []) 0
+    -- elements of 32 bits: vclmulh.vx v4, v8, x1
+    ∷ execution 0x3680E257 (ta (settings 128 32 1 2 1)) 0xFFFFFFFF80000002
+    ((4, 0x11111111111111111111111111111111) ∷ (8, 0x00000080010000800000000000000000) ∷ [])
+    ((4, 0x1111111101000040FFFFFFFFFFFFFFFF) ∷ []) 0
+    -- GHASH words, from group vl/4 on: vghsh.vv v4, v8, v12 and vgmul.vs v4, v8; no tail, and vstart at vl
+    ∷ execution 0xB2862277 (ta (ma (settings 128 32 2 4 0))) 0
+    ((4, 0x80000000000000000000000000000001) ∷ (8, 0x40000000000000000000000000000000) ∷ (12, 0x00000000000000000000000000000002) ∷ [])
+    ((4, 0xA1000000000000000000000000000001) ∷ (5, 0xFFFFFFFFFFFFFFFFFFFFFFFFFFFFFFFF) ∷ []) 0
+    ∷ execution 0xA688A277 (ta (settings 128 32 4 8 4)) 0
+    ((4, 0x80000000000000000000000000000001) ∷ (5, 0x00000000000000000000000000000003) ∷ (8, 0x40000000000000000000000000000000) ∷ [])
+    ((5, 0xE1000000000000000000000000000001) ∷ (6, 0xFFFFFFFFFFFFFFFFFFFFFFFFFFFFFFFF) ∷ (7, 0xFFFFFFFFFFFFFFFFFFFFFFFFFFFFFFFF) ∷ []) 0
+    ∷ execution 0xA688A277 (ta (ma (settings 128 32 2 8 4))) 0
+    ((4, 0x80000000000000000000000000000001) ∷ (5, 0x00000000000000000000000000000003) ∷ (8, 0x40000000000000000000000000000000) ∷ [])
+    ((5, 0xE1000000000000000000000000000001) ∷ []) 0
+    ∷ execution 0xA688A277 (ta (ma (settings 128 32 2 4 4))) 0
+    ((4, 0x80000000000000000000000000000001) ∷ (8, 0x40000000000000000000000000000000) ∷ [])
+    [] 0
     -- pieces: each bit of either counts, and nothing is reduced (the first: FIPS 197, 4.2, before its reduction)
     ∷ pieces 0x57 0x83 0x2B79
     ∷ pieces 0xFF 0xFF 0x5555
@@ -681,5 +765,5 @@ table =
 
 -- the statement: the rows are so many, and all of them hold
 pub record ExamplesHold : Type 0 where
-  pub rows : length table ≡ 454
+  pub rows : length table ≡ 474
   pub all : AllHold Holds table

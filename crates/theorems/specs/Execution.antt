@@ -1,7 +1,7 @@
 -- What a reader asks of an executed word (document 01, "Execution"), unit by unit: a unit is an element of SEW bits in a carry-less
--- word, and a group of 128 bits in a GHASH word.
+-- word, and a group of 128 bits in a GHASH word. What the policies do to the other bytes is in `Policies`.
 -- Assumes nothing.
-use Prim.Native.Nat.{ℕ, _+_, _/_, _<_, _≤_}
+use Prim.Native.Nat.{ℕ, _+_, _*_, _/_, _<_, _≤_}
 use mathlib.Core.Bool.{Bool, true, false, cond, _||_}
 use mathlib.Core.List.{List}
 use mathlib.Core.Path.{_≡_}
@@ -15,11 +15,11 @@ use Rattle.vector_kind.specs.declared.Kind.the-variants.{VclmulVv, VclmulVx, Vc
 use Rattle.vector_word.specs.declared.Word.the-variants.{Known}
 use Rattle.vector_kind.specs.Kinds.{isGhash, isVs, hasVs1Group}
 use Rattle.vector_word.specs.Word.{decode}
-use Rattle.vector_registers.specs.Settings.{registerBytes}
+use Rattle.vector_registers.specs.Settings.{registerBytes, groupLength}
 use Rattle.vector_refusal.specs.Refusal.{refusalOf}
 use Rattle.vector_product.specs.Clmul.{clmul64, lowHalf, highHalf}
-use Rattle.vector_element.specs.Element.{elementAt, blockPlace}
-use Rattle.vector_clmul.specs.Carryless.{active, element, scalarOf}
+use Rattle.vector_element.specs.Element.{elementAt, blockPlace, active}
+use Rattle.vector_clmul.specs.Carryless.{element, scalarOf}
 use Rattle.vector_ghash.specs.GhashWords.{group}
 
 -- the units that are done: from the first to before this one
@@ -63,6 +63,10 @@ resultOf VgmulVs f s scalar file i = product (group s file (f .vd) i) (group s f
 abbrev pub Within : ℕ → ℕ → ℕ → Type 0
 Within at width p = (at ≤ p) × (p < at + width)
 
+-- byte p is one of vd's register group
+abbrev pub InVdGroup : Fields → Settings → ℕ → Type 0
+InVdGroup f s p = Within (f .vd * registerBytes (s .vlen)) (groupLength (s .vlen) (s .lmul)) p
+
 -- units from `first` to before `past`, each of `width` bytes from its place on, are done on a file
 pub record Done
     (file out : List ℕ) (first past width : ℕ) (place : ℕ → ℕ) (active : ℕ → Bool) (unit : ℕ → List ℕ → ℕ) (result : ℕ → ℕ) : Type 0 where
@@ -72,7 +76,7 @@ pub record Done
   pub others : (p : ℕ) → ((i : ℕ) → first ≤ i → i < past → active i ≡ true → Within (place i) width p → ⊥) → getD out p 0 ≡ getD file p 0
   pub same-length : length out ≡ length file
 
--- a word is done on a file: each result is computed from the file at entry
+-- the active units of a word are done on a file: each result is computed from the file at entry
 abbrev pub WordDone : Kind → Fields → Settings → ℕ → List ℕ → List ℕ → Type 0
 WordDone k f s scalar file out =
     Done file out (firstUnit k s) (pastUnit k s) (unitBytes k s) (unitPlace k f s) (activeUnit k f file) (unitOf k f s) (resultOf k f s scalar file)
@@ -86,6 +90,8 @@ pub record PlacesInFile (fileLength : ℕ) (k : Kind) (f : Fields) (s : Settings
   pub vs2 : isVs k ≡ false → (i : ℕ) → i < pastUnit k s → placeIn k s (f .vs2) i + unitBytes k s ≤ fileLength
   -- the key of a .vs word: group 0 of vs2
   pub key : isVs k ≡ true → blockPlace (s .vlen) (f .vs2) 0 + 16 ≤ fileLength
+  -- vd's group, which the tail policy fills up to its end
+  pub tail : (p : ℕ) → InVdGroup f s p → p < fileLength
   -- the byte of mask bit i is one of register 0
   pub mask : (i : ℕ) → i < s .vl → (i / 8 < registerBytes (s .vlen)) × (i / 8 < fileLength)
 

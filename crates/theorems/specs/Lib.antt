@@ -3,6 +3,8 @@ pub mod Examples
 pub mod Execution
 pub mod Marked
 pub mod Overlap
+pub mod Policies
 pub mod Pseudocode
 pub mod Rows
 pub mod Witnesses
+pub mod WithoutPolicies

@@ -2,13 +2,12 @@
 -- group" (`SevenIsOverlap`). So in a .vs word that is done no write touches the key (`WritesMissKey`), and the key that the word reads once,
 -- before any write, is also the one that stands in the file after each step and after the word (`KeyStays`).
 -- Assumes nothing.
-use Prim.Native.Nat.{ℕ, _-_, _*_, _/_, _<_, _≤_}
+use Prim.Native.Nat.{ℕ, _-_, _/_, _<_, _≤_}
 use mathlib.Core.Bool.{true}
 use mathlib.Core.List.{List}
 use mathlib.Core.Path.{_≡_}
 use lib.ListN.{length}
 use Rattle.vector_registers.specs.declared.settings.Settings.{Settings}
-use Rattle.vector_registers.specs.Settings.{registerBytes, groupLength}
 use Rattle.vector_word.specs.declared.Fields.{Fields}
 use Rattle.vector_kind.specs.declared.Kind.{Kind}
 use Rattle.vector_kind.specs.Kinds.{isVs}
@@ -20,11 +19,7 @@ use Rattle.vector_element.specs.Steps.{steps}
 use Rattle.vector_ghash.specs.declared.GhashMultiplier.{GhashMultiplier}
 use Rattle.vector_ghash.specs.GhashWords.{group, vsStep}
 use Rattle.vector_execute.specs.Execute.{executed}
-use Rattle.theorems.specs.Execution.{pastUnit, unitBytes, unitPlace, Within}
-
--- byte p is one of vd's register group
-abbrev pub InVdGroup : Fields → Settings → ℕ → Type 0
-InVdGroup f s p = Within (f .vd * registerBytes (s .vlen)) (groupLength (s .vlen) (s .lmul)) p
+use Rattle.theorems.specs.Execution.{Within, InVdGroup}
 
 -- the bytes of an element group, which the key is: EGW is 128 bits
 abbrev pub keyBytes : ℕ
@@ -45,12 +40,12 @@ SevenIsOverlap =
     → ((0 < refusalOf fileLength word s) × (refusalOf fileLength word s < 7) → ⊥)
     → (refusalOf fileLength word s ≡ 7 → KeyOverlaps k f s) × (KeyOverlaps k f s → refusalOf fileLength word s ≡ 7)
 
--- in a .vs word that is done no byte of a group that is written is one of the key's
+-- in a .vs word that is done no byte of vd's group, where all writes are (`Policies: OnlyVdGroup`), is one of the key's
 abbrev pub WritesMissKey : Type 0
 WritesMissKey =
     (fileLength word : ℕ) (s : Settings) → refusalOf fileLength word s ≡ 0
     → (k : Kind) (f : Fields) → decode word ≡ Known k f → isVs k ≡ true
-    → (i : ℕ) → i < pastUnit k s → (p : ℕ) → Within (unitPlace k f s i) (unitBytes k s) p → InKey f s p → ⊥
+    → (p : ℕ) → InVdGroup f s p → InKey f s p → ⊥
 
 -- the key in a file
 abbrev pub keyIn : Fields → Settings → List ℕ → ℕ

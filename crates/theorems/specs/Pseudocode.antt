@@ -20,7 +20,8 @@ use Rattle.vector_word.specs.Word.{decode}
 use Rattle.vector_kind.specs.Kinds.{isGhash}
 use Rattle.vector_refusal.specs.Refusal.{refusalOf}
 use Rattle.octets.specs.LittleEndian.{readLe, writeLe}
-use Rattle.vector_clmul.specs.Carryless.{active}
+use Rattle.vector_element.specs.Element.{active}
+use Rattle.vector_fill.specs.Fill.{filled}
 use Rattle.vector_execute.specs.Execute.{executed}
 use Rattle.theorems.specs.Execution.{firstUnit, pastUnit, activeUnit}
 
@@ -261,11 +262,12 @@ pseudocode VghshVs f s scalar file = VGHSHVS f s file
 pseudocode VgmulVv f s scalar file = VGMULVV f s file
 pseudocode VgmulVs f s scalar file = VGMUL f s file
 
--- a word that is not refused, on a file, which is bytes, leaves the file that the pseudocode leaves
+-- a word that is not refused, on a file, which is bytes, leaves the file that the pseudocode leaves, filled by the policies (document 02,
+-- Ask 5)
 abbrev pub FollowsPseudocode : Type 0
 FollowsPseudocode =
     (word : ℕ) (s : Settings) (scalar : ℕ) (file : List ℕ) → AreBytes file → refusalOf (length file) word s ≡ 0
-    → (k : Kind) (f : Fields) → decode word ≡ Known k f → executed word s scalar file ≡ pseudocode k f s scalar file
+    → (k : Kind) (f : Fields) → decode word ≡ Known k f → executed word s scalar file ≡ filled f s (pseudocode k f s scalar file)
 
 -- the bits of an element, or of an element group, of a word of a kind
 abbrev pub widthOf : Kind → Settings → ℕ

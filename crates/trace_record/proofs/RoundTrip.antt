@@ -1,8 +1,9 @@
--- A record's bytes and its fields undo each other, field by field.
+-- A record's bytes and its fields undo each other, field by field; so do the policy byte and the policies.
 -- Assumes nothing.
-use Prim.Native.Nat.{ℕ, _+_, _≤_}
+use Prim.Native.Nat.{ℕ, zero, suc, _+_, _≤_}
+use mathlib.Core.Bool.{Bool, true, false}
 use mathlib.Core.List.{List, [], _++_}
-use mathlib.Core.Path.{_≡_, sym, ap, ap₂, _∙_}
+use mathlib.Core.Path.{_≡_, refl, sym, ap, ap₂, _∙_}
 use native.Mathlib.Nat.{add-zero}
 use native.Mathlib.Omega.{arith}
 use lib.ListN.{length, take, drop}
@@ -12,8 +13,8 @@ use Rattle.octets.specs.LittleEndian.{readLe, leBytes}
 use Rattle.octets.proofs.LittleEndian.{le-same, read-leBytes, leBytes-read}
 use Rattle.octets.proofs.Stores.{sets-at}
 use Rattle.trace_record.specs.declared.Record.{Record}
-use Rattle.trace_record.specs.Record.{recordAt, zeroByteAt, recordBytes}
-use Rattle.trace_record.specs.RoundTrip.{WrittenIsRead, ReadIsWritten}
+use Rattle.trace_record.specs.Record.{recordAt, recordBytes, policyOf, vtaOf, vmaOf}
+use Rattle.trace_record.specs.RoundTrip.{WrittenIsRead, ReadIsWritten, PolicyByte}
 use Rattle.trace_record.proofs.Bytes.{length-recordBytes}
 
 -- ---- written, then read
@@ -29,19 +30,18 @@ there r s at place n h k =
 
 -- the number of a field, in the record's bytes and in its own, is computed from the same bytes
 pub written-is-read : WrittenIsRead
-unfolding readLe leBytes recordAt zeroByteAt recordBytes
-written-is-read r s at h = (
-  λ i. record {
-    word = (there r s at 0 4 h (omega arith) ∙ read-leBytes 4 (r .word) []) i;
-    sew = (there r s at 4 1 h (omega arith) ∙ read-leBytes 1 (r .sew) []) i;
-    lmul = (there r s at 5 1 h (omega arith) ∙ read-leBytes 1 (r .lmul) []) i;
-    answer = (there r s at 6 1 h (omega arith) ∙ read-leBytes 1 (r .answer) []) i;
-    vl = (there r s at 8 4 h (omega arith) ∙ read-leBytes 4 (r .vl) []) i;
-    vstart = (there r s at 12 4 h (omega arith) ∙ read-leBytes 4 (r .vstart) []) i;
-    scalar = (there r s at 16 8 h (omega arith) ∙ read-leBytes 8 (r .scalar) []) i;
-  },
-  there r s at 7 1 h (omega arith),
-)
+unfolding readLe leBytes recordAt recordBytes
+written-is-read r s at h =
+    λ i. record {
+      word = (there r s at 0 4 h (omega arith) ∙ read-leBytes 4 (r .word) []) i;
+      sew = (there r s at 4 1 h (omega arith) ∙ read-leBytes 1 (r .sew) []) i;
+      lmul = (there r s at 5 1 h (omega arith) ∙ read-leBytes 1 (r .lmul) []) i;
+      answer = (there r s at 6 1 h (omega arith) ∙ read-leBytes 1 (r .answer) []) i;
+      policy = (there r s at 7 1 h (omega arith) ∙ read-leBytes 1 (r .policy) []) i;
+      vl = (there r s at 8 4 h (omega arith) ∙ read-leBytes 4 (r .vl) []) i;
+      vstart = (there r s at 12 4 h (omega arith) ∙ read-leBytes 4 (r .vstart) []) i;
+      scalar = (there r s at 16 8 h (omega arith) ∙ read-leBytes 8 (r .scalar) []) i;
+    }
 
 -- ---- read, then written
 
@@ -54,16 +54,32 @@ before n m at next s later b h e l =
     ∙ sym (take-add n m (drop at s))
 
 pub read-is-written : ReadIsWritten
-unfolding leBytes recordAt zeroByteAt recordBytes
-read-is-written s at b h z =
-    let long = leBytes 4 (readLe s (at + 8) 4) ++ (leBytes 4 (readLe s (at + 12) 4) ++ leBytes 8 (readLe s (at + 16) 8)) in
+unfolding leBytes recordAt recordBytes
+read-is-written s at b h =
     before 4 20 (at + 0) (at + 4) s _ b (omega arith) (omega arith)
     (before 1 19 (at + 4) (at + 5) s _ b (omega arith) (omega arith)
     (before 1 18 (at + 5) (at + 6) s _ b (omega arith) (omega arith)
     (before 1 17 (at + 6) (at + 7) s _ b (omega arith) (omega arith)
-    (ap (λ (v : ℕ). leBytes 1 v ++ long) (sym z)
-    ∙ before 1 16 (at + 7) (at + 8) s long b (omega arith) (omega arith)
+    (before 1 16 (at + 7) (at + 8) s _ b (omega arith) (omega arith)
     (before 4 12 (at + 8) (at + 12) s _ b (omega arith) (omega arith)
     (before 4 8 (at + 12) (at + 16) s _ b (omega arith) (omega arith)
     (leBytes-read 8 s (at + 16) b (omega arith))))))))
     ∙ ap (λ (p : ℕ). take 24 (drop p s)) (add-zero at)
+
+-- ---- the policy byte
+
+pub policy-byte : PolicyByte
+policy-byte = record { given = given; held = held }
+  where
+    given : (vta vma : Bool) → (policyOf vta vma ≤ 3) × (vtaOf (policyOf vta vma) ≡ vta) × (vmaOf (policyOf vta vma) ≡ vma)
+    given true true = (omega arith, refl, refl)
+    given true false = (omega arith, refl, refl)
+    given false true = (omega arith, refl, refl)
+    given false false = (omega arith, refl, refl)
+
+    held : (policy : ℕ) → policy ≤ 3 → policyOf (vtaOf policy) (vmaOf policy) ≡ policy
+    held zero h = refl
+    held (suc zero) h = refl
+    held (suc (suc zero)) h = refl
+    held (suc (suc (suc zero))) h = refl
+    held (suc (suc (suc (suc n)))) h = absurd (omega arith)

@@ -1,5 +1,5 @@
 -- What stands at a place is the same record wherever its 24 bytes stand: at the start of a longer trace, or after another.
--- Main results: `record-within`, `zero-within`, `record-after`, `zero-after`.
+-- Main results: `record-within`, `record-after`.
 -- Assumes nothing.
 use Prim.Native.Nat.{ℕ, _+_, _<_, _≤_}
 use mathlib.Core.List.{List, _++_}
@@ -9,7 +9,7 @@ use lib.ListN.{length, getD, List·getD-append}
 use lib.Seq.{getD-append-add}
 use Rattle.octets.specs.LittleEndian.{readLe}
 use Rattle.octets.proofs.LittleEndian.{le-same}
-use Rattle.trace_record.specs.Record.{recordAt, zeroByteAt}
+use Rattle.trace_record.specs.Record.{recordAt}
 
 -- 24 bytes that agree
 abbrev Agree : List ℕ → List ℕ → ℕ → ℕ → Type 0
@@ -30,14 +30,11 @@ record-same s t a b e =
       sew = number s t a b 4 1 e (omega arith) i;
       lmul = number s t a b 5 1 e (omega arith) i;
       answer = number s t a b 6 1 e (omega arith) i;
+      policy = number s t a b 7 1 e (omega arith) i;
       vl = number s t a b 8 4 e (omega arith) i;
       vstart = number s t a b 12 4 e (omega arith) i;
       scalar = number s t a b 16 8 e (omega arith) i;
     }
-
-zero-same : (s t : List ℕ) (a b : ℕ) → Agree s t a b → zeroByteAt s a ≡ zeroByteAt t b
-unfolding zeroByteAt
-zero-same s t a b e = number s t a b 7 1 e (omega arith)
 
 within : (s t : List ℕ) (at : ℕ) → at + 24 ≤ length s → Agree (s ++ t) s at at
 within s t at h k l = List·getD-append s t 0 (at + k) (omega arith)
@@ -48,11 +45,5 @@ after s t at k l = let e : length s + at + k ≡ length s + (at + k) = omega ari
 pub record-within : (s t : List ℕ) (at : ℕ) → at + 24 ≤ length s → recordAt (s ++ t) at ≡ recordAt s at
 record-within s t at h = record-same (s ++ t) s at at (within s t at h)
 
-pub zero-within : (s t : List ℕ) (at : ℕ) → at + 24 ≤ length s → zeroByteAt (s ++ t) at ≡ zeroByteAt s at
-zero-within s t at h = zero-same (s ++ t) s at at (within s t at h)
-
 pub record-after : (s t : List ℕ) (at : ℕ) → recordAt (s ++ t) (length s + at) ≡ recordAt t at
 record-after s t at = record-same (s ++ t) t (length s + at) at (after s t at)
-
-pub zero-after : (s t : List ℕ) (at : ℕ) → zeroByteAt (s ++ t) (length s + at) ≡ zeroByteAt t at
-zero-after s t at = zero-same (s ++ t) t (length s + at) at (after s t at)

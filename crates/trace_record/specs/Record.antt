@@ -1,7 +1,8 @@
 -- Document 02, Ask 3: a trace is records of 24 bytes, no header: word (4), SEW, LMUL, answer, a zero byte, vl (4), vstart (4),
--- scalar (8), numbers low byte first.
+-- scalar (8), numbers low byte first. Ask 5: "The zero byte of the trace record now holds the tail policy as 1 and the mask policy as 2,
+-- added; other values are 14."
 -- Assumes nothing.
-use Prim.Native.Nat.{ℕ, zero, suc, _+_, _/_}
+use Prim.Native.Nat.{ℕ, zero, suc, _+_, _/_, _%_}
 use mathlib.Core.Bool.{Bool, cond, not, _&&_, _||_}
 use mathlib.Core.List.{List, [], _∷_, _++_}
 use lib.Dec.{eqb, ltb}
@@ -16,14 +17,21 @@ recordAt trace at = record {
   sew = readLe trace (at + 4) 1;
   lmul = readLe trace (at + 5) 1;
   answer = readLe trace (at + 6) 1;
+  policy = readLe trace (at + 7) 1;
   vl = readLe trace (at + 8) 4;
   vstart = readLe trace (at + 12) 4;
   scalar = readLe trace (at + 16) 8;
 }
 
--- its zero byte
-unfoldable pub zeroByteAt : List ℕ → ℕ → ℕ
-zeroByteAt trace at = readLe trace (at + 7) 1
+-- the policy byte, and the policies that one up to 3 holds
+abbrev pub policyOf : Bool → Bool → ℕ
+policyOf vta vma = cond vta 1 0 + cond vma 2 0
+
+abbrev pub vtaOf : ℕ → Bool
+vtaOf policy = eqb (policy % 2) 1
+
+abbrev pub vmaOf : ℕ → Bool
+vmaOf policy = eqb (policy / 2 % 2) 1
 
 -- n records from `at` on, and the whole records of a trace
 unfoldable pub recordsFrom : ℕ → List ℕ → ℕ → List Record
@@ -40,14 +48,14 @@ recordBytes r =
     ++ (leBytes 1 (r .sew)
     ++ (leBytes 1 (r .lmul)
     ++ (leBytes 1 (r .answer)
-    ++ (0
-    ∷ (leBytes 4 (r .vl)
+    ++ (leBytes 1 (r .policy)
+    ++ (leBytes 4 (r .vl)
     ++ (leBytes 4 (r .vstart)
     ++ leBytes 8 (r .scalar)))))))
 
--- SEW, LMUL and the answer have one byte each
+-- SEW, LMUL and the answer have one byte each, and a policy byte over 3 is none
 abbrev pub tooLarge : Record → Bool
-tooLarge r = ltb 255 (r .sew) || (ltb 255 (r .lmul) || ltb 255 (r .answer))
+tooLarge r = ltb 255 (r .sew) || (ltb 255 (r .lmul) || (ltb 255 (r .answer) || ltb 3 (r .policy)))
 
 -- 14: the buffer is not 24 bytes long, or a number has no room; nothing is then written
 abbrev pub writable : ℕ → Record → Bool

@@ -1,10 +1,11 @@
-// A record of a trace: one call of the executor, and its answer. Document 02, Ask 3.
+// A record of a trace: one call of the executor, and its answer. Document 02, Asks 3 and 5.
+ghost use mathlib.Core.Bool.{cond};
 ghost use mathlib.Core.Path.{_≡_};
 ghost use Prim.Native.Nat.{_+_, _≤_};
 ghost use lib.ListN.{length};
 ghost use lib.Seq.{sets};
 ghost use Rattle.octets.specs.LittleEndian.{readLe};
-ghost use Rattle.trace_record.specs.Record.{recordAt, recordBytes, tooLarge, writeNumber, writtenInto};
+ghost use Rattle.trace_record.specs.Record.{recordAt, recordBytes, policyOf, tooLarge, writeNumber, writtenInto};
 use octets_le::read_le;
 use octets_le::write_le;
 use octets_slice::put;
@@ -12,15 +13,35 @@ use octets_slice::put;
 // How many bytes a record has.
 pub const RECORD_BYTES: usize = 24;
 
-// The word, the settings without VLEN, the scalar and the answer of a call. vstart is the one before the call.
+// The word, the settings without VLEN, the scalar and the answer of a call. `policy` is the policy byte; vstart is the one before the call.
 pub struct Record {
     pub word: u32,
     pub sew: u32,
     pub lmul: u32,
     pub answer: u32,
+    pub policy: u32,
     pub vl: u32,
     pub vstart: u32,
     pub scalar: u64,
+}
+
+// ---- policies
+
+// A number where a policy is on, else 0.
+fn number_if(on: bool, number: u32) -> u32
+    ensures { λ r. ⌜ r ≡ cond on number 0 ⌝ }
+{
+    if on {
+        return number;
+    }
+    0
+}
+
+// The policy byte.
+pub fn policy_of(vta: bool, vma: bool) -> u32
+    ensures { λ p. ⌜ p ≡ policyOf vta vma ⌝ }
+{
+    number_if(vta, 1) + number_if(vma, 2)
 }
 
 // ---- read
@@ -53,6 +74,7 @@ pub fn record_at(trace: &[u8], at: usize) -> Record
         sew: short_at(trace, at, 4, 1),
         lmul: short_at(trace, at, 5, 1),
         answer: short_at(trace, at, 6, 1),
+        policy: short_at(trace, at, 7, 1),
         vl: short_at(trace, at, 8, 4),
         vstart: short_at(trace, at, 12, 4),
         scalar: number_at(trace, at, 16, 8),
@@ -61,7 +83,7 @@ pub fn record_at(trace: &[u8], at: usize) -> Record
 
 // ---- written
 
-// The record's bytes. Of SEW, LMUL and the answer the low byte stands there.
+// The record's bytes. Of SEW, LMUL, the answer and the policy byte the low byte stands there.
 fn record_bytes(r: Record) -> [u8; RECORD_BYTES]
     ensures { λ b. ⌜ b ≡ recordBytes r ⌝ }
 {
@@ -70,6 +92,7 @@ fn record_bytes(r: Record) -> [u8; RECORD_BYTES]
     write_le(&mut b, 4, 1, r.sew as u64);
     write_le(&mut b, 5, 1, r.lmul as u64);
     write_le(&mut b, 6, 1, r.answer as u64);
+    write_le(&mut b, 7, 1, r.policy as u64);
     write_le(&mut b, 8, 4, r.vl as u64);
     write_le(&mut b, 12, 4, r.vstart as u64);
     write_le(&mut b, 16, 8, r.scalar);
@@ -83,7 +106,7 @@ pub fn put_record(r: Record, s: &mut [u8], at: usize)
     put(s, at, &record_bytes(r));
 }
 
-// SEW, LMUL or the answer is over 255.
+// SEW, LMUL or the answer is over 255, or the policy byte over 3.
 fn too_large(r: Record) -> bool
     ensures { λ b. ⌜ b ≡ tooLarge r ⌝ }
 {
@@ -93,7 +116,10 @@ fn too_large(r: Record) -> bool
     if r.lmul > 255 {
         return true;
     }
-    r.answer > 255
+    if r.answer > 255 {
+        return true;
+    }
+    r.policy > 3
 }
 
 // Writes the record over a slice of 24 bytes. 14: another length, or a number that has no room; nothing is then written.

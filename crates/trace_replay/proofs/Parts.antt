@@ -7,8 +7,7 @@ use native.Mathlib.Decide.{decLt}
 use native.Mathlib.Nat.{add-zero, add-suc}
 use native.Mathlib.Omega.{arith}
 use lib.ListN.{length, length-append}
-use Rattle.trace_record.specs.Record.{zeroByteAt}
-use Rattle.trace_record.proofs.Same.{record-within, zero-within, record-after, zero-after}
+use Rattle.trace_record.proofs.Same.{record-within, record-after}
 use Rattle.trace_replay.specs.declared.Replayed.the-variants.{Done}
 use Rattle.trace_replay.specs.Replay.{called, Outcome}
 use Rattle.trace_replay.specs.Meaning.{recordOf, fileAfter, IsOurs, Means, DoneInParts}
@@ -21,12 +20,6 @@ module _ (s t : List ℕ) (m : ℕ) (e : length s ≡ 24 * m) where
 
   second : (k : ℕ) → recordOf (s ++ t) (m + k) ≡ recordOf t k
   second k = let p : 24 * (m + k) ≡ length s + 24 * k = omega arith in rw p (record-after s t (24 * k))
-
-  zero-first : (i : ℕ) → i < m → zeroByteAt (s ++ t) (24 * i) ≡ zeroByteAt s (24 * i)
-  zero-first i l = zero-within s t (24 * i) (omega arith)
-
-  zero-second : (k : ℕ) → zeroByteAt (s ++ t) (24 * (m + k)) ≡ zeroByteAt t (24 * k)
-  zero-second k = let p : 24 * (m + k) ≡ length s + 24 * k = omega arith in rw p (zero-after s t (24 * k))
 
   module _ (vlen : ℕ) (file : List ℕ) where
     file-first : (i : ℕ) → i ≤ m → fileAfter vlen (s ++ t) i file ≡ fileAfter vlen s i file
@@ -49,7 +42,7 @@ module _ (s t : List ℕ) (m : ℕ) (e : length s ≡ 24 * m) where
 pub done-in-parts : DoneInParts
 done-in-parts vlen m n file middle last s t p q =
     sym (one-meaning vlen file (s ++ t) (record { answer = Done (m + n); file = last })
-    (record { whole = omega (arith, both); zeros = λ i l. zeros i (decLt i m) (omega (arith, both)) }, omega (arith, both), (λ i l. ours i (decLt i m) l), end))
+    (record { whole = omega (arith, both); policies = λ i l. policies i (decLt i m) (omega (arith, both)) }, omega (arith, both), (λ i l. ours i (decLt i m) l), end))
   where
     one : Means vlen file s (Done m) middle
     one = subst (λ (o : Outcome). Means vlen file s (o .answer) (o .file)) p (replay-means vlen file s)
@@ -67,10 +60,11 @@ done-in-parts vlen m n file middle last s t p q =
     past : (i : ℕ) → (i < m → ⊥) → m + (i - m) ≡ i
     past i f = omega (arith, f)
 
-    zeros : (i : ℕ) → Dec (i < m) → i < m + n → zeroByteAt (s ++ t) (24 * i) ≡ 0
-    zeros i (yes l) h = zero-first s t m long i l ∙ one .0 .zeros i (omega (arith, one .1))
-    zeros i (no f) h =
-        subst (λ (k : ℕ). zeroByteAt (s ++ t) (24 * k) ≡ 0) (past i f) (zero-second s t m long (i - m) ∙ two .0 .zeros (i - m) (omega (arith, f, two .1)))
+    policies : (i : ℕ) → Dec (i < m) → i < m + n → recordOf (s ++ t) i .policy ≤ 3
+    policies i (yes l) h = rw (first s t m long i l) (one .0 .policies i (omega (arith, one .1)))
+    policies i (no f) h =
+        subst (λ (k : ℕ). recordOf (s ++ t) k .policy ≤ 3) (past i f)
+        (rw (second s t m long (i - m)) (two .0 .policies (i - m) (omega (arith, f, two .1))))
 
     ours : (i : ℕ) → Dec (i < m) → i < m + n → IsOurs vlen file (s ++ t) i
     ours i (yes l) h = ours-first s t m long vlen file i l (one .2 i l)

@@ -1,4 +1,4 @@
--- Document 02, Ask 3: replay folds the executor over the records of a trace.
+-- Document 02, Ask 3: replay folds the executor over the records of a trace, with the policies of Ask 5.
 -- Assumes nothing.
 use Prim.Native.Nat.{ℕ, _+_}
 use mathlib.Core.Bool.{Bool, cond}
@@ -9,7 +9,7 @@ use Rattle.vector_registers.specs.declared.settings.Settings.{Settings}
 use Rattle.vector_refusal.specs.Refusal.{refusalOf}
 use Rattle.vector_execute.specs.Execute.{executed}
 use Rattle.trace_record.specs.declared.Record.{Record}
-use Rattle.trace_record.specs.Record.{records}
+use Rattle.trace_record.specs.Record.{records, vtaOf, vmaOf}
 use Rattle.trace_form.specs.Form.{wellFormed}
 use Rattle.trace_replay.specs.declared.Replayed.{Replayed}
 use Rattle.trace_replay.specs.declared.Replayed.the-variants.{Done, Differs, Refused}
@@ -17,7 +17,8 @@ use Rattle.trace_replay.specs.declared.Replayed.the-variants.{Done, Diff
 -- ---- a record: one call of the executor
 
 abbrev pub settingsOf : ℕ → Record → Settings
-settingsOf vlen r = record { vlen = vlen; sew = r .sew; lmul = r .lmul; vl = r .vl; vstart = r .vstart }
+settingsOf vlen r =
+    record { vlen = vlen; sew = r .sew; lmul = r .lmul; vta = vtaOf (r .policy); vma = vmaOf (r .policy); vl = r .vl; vstart = r .vstart }
 
 -- our answer, and the file after the call
 abbrev pub ours : ℕ → Record → List ℕ → ℕ

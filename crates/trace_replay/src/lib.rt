@@ -1,4 +1,4 @@
-// Replay of a trace on a lent register file: document 02, Ask 3.
+// Replay of a trace on a lent register file: document 02, Asks 3 and 5.
 ghost use mathlib.Core.Path.{_≡_};
 ghost use Rattle.trace_replay.specs.Replay.{settingsOf, agrees, afterRecord, replayed, numberOf, indexOf};
 use trace_form::well_formed;
@@ -25,6 +25,8 @@ fn settings_of(vlen: u32, r: Record) -> Settings
         vlen,
         sew: r.sew,
         lmul: r.lmul,
+        vta: r.policy % 2 == 1,
+        vma: r.policy / 2 % 2 == 1,
         vl: r.vl,
         vstart: r.vstart,
     }

@@ -10,8 +10,8 @@ use Rattle.vector_word.specs.declared.Fields.{Fields}
 use Rattle.vector_product.specs.declared.clmul.Half.{Half}
 use Rattle.vector_clmul.specs.declared.Multiplier.{Multiplier}
 use Rattle.octets.specs.LittleEndian.{writeLe}
-use Rattle.vector_element.specs.Element.{elementAt}
-use Rattle.vector_clmul.specs.Carryless.{active, carrylessResult, carrylessStep}
+use Rattle.vector_element.specs.Element.{elementAt, active}
+use Rattle.vector_clmul.specs.Carryless.{carrylessResult, carrylessStep}
 
 module _ (which : Half) (m : Multiplier) (f : Fields) (s : Settings) (i : ℕ) (file : List ℕ) where
   -- an active element is written

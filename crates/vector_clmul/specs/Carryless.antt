@@ -1,7 +1,7 @@
 -- Document 01, "Execution", with the pseudocode of source 002: what a carry-less word does to the register file.
 -- Assumes nothing.
 use Prim.Native.Nat.{ℕ, _-_, _/_, _%_, _^_}
-use mathlib.Core.Bool.{Bool, cond, _||_}
+use mathlib.Core.Bool.{cond}
 use mathlib.Core.List.{List}
 use lib.Dec.{eqb}
 use Rattle.vector_product.specs.declared.clmul.Half.{Half}
@@ -11,12 +11,8 @@ use Rattle.vector_registers.specs.declared.settings.Settings.{Settings}
 use Rattle.vector_word.specs.declared.Fields.{Fields}
 use Rattle.vector_product.specs.Clmul.{clmul64, halfOf}
 use Rattle.octets.specs.LittleEndian.{readLe, writeLe}
-use Rattle.vector_element.specs.Element.{elementAt, maskBit}
+use Rattle.vector_element.specs.Element.{elementAt, active}
 use Rattle.vector_element.specs.Steps.{steps}
-
--- an element is active where vm is 1 or its mask bit is 1
-abbrev pub active : Fields → List ℕ → ℕ → Bool
-active f file i = eqb (f .vm) 1 || eqb (maskBit file i) 1
 
 -- element i of a register group
 abbrev pub element : Settings → List ℕ → ℕ → ℕ → ℕ

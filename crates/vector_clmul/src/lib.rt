@@ -3,11 +3,11 @@
 ghost use mathlib.Core.Bool.{true};
 ghost use mathlib.Core.Path.{_≡_};
 ghost use Rattle.vector_registers.specs.Settings.{sewAllowed};
-ghost use Rattle.vector_clmul.specs.Carryless.{active, element, scalarOf, multiplierOf, carrylessResult, carrylessStep, carryless};
+ghost use Rattle.vector_clmul.specs.Carryless.{element, scalarOf, multiplierOf, carrylessResult, carrylessStep, carryless};
 use octets_le::read_le;
 use octets_le::write_le;
+use vector_element::element::active;
 use vector_element::element::element_at;
-use vector_element::element::mask_bit;
 use vector_product::clmul::Half;
 use vector_product::clmul::clmul64;
 use vector_product::clmul::half_of;
@@ -19,16 +19,6 @@ use vector_word::Fields;
 pub enum Multiplier {
     Vs1,
     Scalar(u64),
-}
-
-// An element is active where vm is 1 or its mask bit is 1.
-fn active(f: Fields, i: u32, file: &[u8]) -> bool
-    ensures { λ r. ⌜ r ≡ active f (now (file .entry)) i ⌝ }
-{
-    if f.vm == 1 {
-        return true;
-    }
-    mask_bit(file, i) == 1
 }
 
 // Element i of a register group.

@@ -1,4 +1,4 @@
--- Document 01, "Execution": what a call does to the register file and to vstart.
+-- Document 01, "Execution", with document 02's Ask 5: what a call does to the register file and to vstart.
 -- Assumes nothing.
 use Prim.Native.Nat.{ℕ}
 use mathlib.Core.Bool.{cond}
@@ -16,9 +16,11 @@ use Rattle.vector_word.specs.declared.Word.{Word}
 use Rattle.vector_word.specs.declared.Word.the-variants.{Known, Unknown}
 use Rattle.vector_clmul.specs.Carryless.{scalarOf, carryless}
 use Rattle.vector_ghash.specs.GhashWords.{ghashVv, ghashVs}
+use Rattle.vector_fill.specs.Fill.{filled}
 use Rattle.vector_refusal.specs.Refusal.{refusalOf}
 use Rattle.vector_word.specs.Word.{decode}
 
+-- the active elements or groups of a word, by its kind
 abbrev pub doneKnown : Kind → Fields → Settings → ℕ → List ℕ → List ℕ
 doneKnown VclmulVv f s scalar file = carryless Low Vs1 f s file
 doneKnown VclmulVx f s scalar file = carryless Low (Scalar (scalarOf f s scalar)) f s file
@@ -29,9 +31,10 @@ doneKnown VghshVs f s scalar file = ghashVs YXorX f s file
 doneKnown VgmulVv f s scalar file = ghashVv YAlone f s file
 doneKnown VgmulVs f s scalar file = ghashVs YAlone f s file
 
+-- a decoded word: the active ones, then what the policies fill
 abbrev pub done : Word → Settings → ℕ → List ℕ → List ℕ
 done Unknown s scalar file = file
-done (Known k f) s scalar file = doneKnown k f s scalar file
+done (Known k f) s scalar file = filled f s (doneKnown k f s scalar file)
 
 -- the file after a call; a refusal leaves it as it was
 unfoldable pub executed : ℕ → Settings → ℕ → List ℕ → List ℕ

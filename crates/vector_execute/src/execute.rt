@@ -1,4 +1,5 @@
-// The executor: document 01, "Execution". A word is decoded, checked against the settings and done.
+// The executor: document 01, "Execution", with the policies of document 02's Ask 5. A word is decoded, checked against the settings and
+// done.
 ghost use mathlib.Core.Bool.{true};
 ghost use mathlib.Core.Path.{_≡_};
 ghost use lib.ListN.{length};
@@ -8,6 +9,7 @@ ghost use Rattle.vector_execute.specs.Execute.{doneKnown, done, executed
 use vector_clmul::Multiplier;
 use vector_clmul::carryless;
 use vector_clmul::scalar_of;
+use vector_fill::fill;
 use vector_ghash::GhashMultiplier;
 use vector_ghash::ghash_vs;
 use vector_ghash::ghash_vv;
@@ -48,13 +50,16 @@ fn run_known(k: Kind, f: Fields, s: Settings, scalar: u64, file: &mut [u8])
     }
 }
 
-// A decoded word.
+// A decoded word: its active elements, then what the policies fill.
 fn run(w: Word, s: Settings, scalar: u64, file: &mut [u8])
     requires { ⌜ sewAllowed (s .sew) ≡ true ⌝ }
     ensures { λ _. ⌜ now (file .exit) ≡ done w s scalar (now (file .entry)) ⌝ }
 {
     match w {
-        Word::Known(k, f) => run_known(k, f, s, scalar, file),
+        Word::Known(k, f) => {
+            run_known(k, f, s, scalar, file);
+            fill(f, s, file)
+        }
         Word::Unknown => {}
     }
 }

@@ -2,11 +2,14 @@
 ghost use mathlib.Core.Path.{_≡_};
 ghost use Rattle.vector_registers.specs.Settings.{oneOf, vlenAllowed, sewAllowed, lmulAllowed, groupRegisters, timesLmul, vlmax, registerBytes, fileBytes, groupLength, misaligned, occupies, applies1, applies3};
 
-// What the host sets before a word: VLEN and SEW in bits, LMUL in registers, vl and vstart in elements.
+// What the host sets before a word: VLEN and SEW in bits, LMUL in registers, tail and mask agnostic (vtype's vta and vma), vl and vstart
+// in elements.
 pub struct Settings {
     pub vlen: u32,
     pub sew: u32,
     pub lmul: u32,
+    pub vta: bool,
+    pub vma: bool,
     pub vl: u32,
     pub vstart: u32,
 }

@@ -26,6 +26,10 @@ extern "C" {
     pub fn rvghash_execute(
         word: u32, vlen: u32, sew: u32, lmul: u32, vl: u32, vstart: *mut u32, scalar: u64, file: *mut u8, file_len: usize,
     ) -> u32;
+    pub fn rvghash_execute_policies(
+        word: u32, vlen: u32, sew: u32, lmul: u32, tail_agnostic: bool, mask_agnostic: bool, vl: u32,
+        vstart: *mut u32, scalar: u64, file: *mut u8, file_len: usize,
+    ) -> u32;
     pub fn rvghash_group_refusal(vlen: u32, file_len: usize, lmul: u32, reg: u32) -> u32;
     pub fn rvghash_group(
         vlen: u32, file_len: usize, lmul: u32, reg: u32, start: *mut usize, length: *mut usize,
@@ -37,8 +41,8 @@ extern "C" {
     pub fn rvghash_disassemble(word: u32, text: *mut u8, text_len: usize, length: *mut usize) -> u32;
     pub fn rvghash_assemble(text: *const u8, text_len: usize, word: *mut u32) -> u32;
     pub fn rvghash_put_record(
-        word: u32, sew: u32, lmul: u32, answer: u32, vl: u32, vstart: u32, scalar: u64,
-        record: *mut u8, record_len: usize,
+        word: u32, sew: u32, lmul: u32, tail_agnostic: bool, mask_agnostic: bool, answer: u32, vl: u32, vstart: u32,
+        scalar: u64, record: *mut u8, record_len: usize,
     ) -> u32;
     pub fn rvghash_replay(
         vlen: u32, file: *mut u8, file_len: usize, trace: *const u8, trace_len: usize, index: *mut usize,

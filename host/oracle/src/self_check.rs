@@ -1,10 +1,11 @@
 //! The model against the papers themselves, without the library: the marked cases, the example words and their texts,
-//! the overlap that is reserved, records by hand, published GHASH values, and each of the model's methods against
-//! another one.
+//! the overlap that is reserved, fills and records by hand, published GHASH values, and each of the model's methods
+//! against another one.
 
+mod policies;
 mod traces;
 
-use crate::model::execute::{execute, Request, LMULS, VLENS};
+use crate::model::execute::{execute, Request, LMULS, UNDISTURBED, VLENS};
 use crate::model::field::{from_bits, inverse, single, times, to_bits, Block, ONE, ZERO};
 use crate::model::hash::ghash;
 use crate::model::linear::Solutions;
@@ -24,6 +25,7 @@ pub fn run(seed: u64) -> bool {
     checks.push(("the example words", example_words()));
     checks.push(("mask and match against the table of fields", decoder_follows_table(&mut rng)));
     checks.push(("number 7 against the bytes that source 002 means", overlap_follows_bytes()));
+    checks.extend(policies::checks(&mut rng));
     checks.extend(texts(&mut rng));
     checks.extend(traces::checks(&mut rng));
     checks.push(("coefficient k is bit 7 - k mod 8 of byte k div 8", places()));
@@ -82,7 +84,8 @@ fn executed(kind: Kind, sew: u32, vl: u32, vd: &[u8], vs2: &[u8], vs1: &[u8], sc
     }
     let row = TABLE.iter().find(|row| row.kind == kind).expect("a row for each kind");
     let word = row.encode(1, 2, 3, 1);
-    let outcome = execute(&Request { word, vlen: 128, sew, lmul: 1, vl, vstart: 0, scalar, file: &file });
+    let (vlen, lmul, policies, vstart) = (128, 1, UNDISTURBED, 0);
+    let outcome = execute(&Request { word, vlen, sew, lmul, policies, vl, vstart, scalar, file: &file });
     assert_eq!((outcome.answer, outcome.vstart), (0, 0));
     outcome.file[16..32].to_vec()
 }
@@ -174,7 +177,8 @@ fn overlap_of_word(row: &Row, vlen: u32, lmul: u32, vd: u32, vs2: u32) -> bool {
     let misaligned = vd % lmul != 0 || !is_vs && vs2 % lmul != 0;
     let reserved = is_vs && key.any(|byte| group.contains(&byte));
     let (word, file) = (row.encode(1, vs2, 8, vd), vec![0; start(32) as usize]);
-    let outcome = execute(&Request { word, vlen, sew: 32, lmul, vl: 4, vstart: 0, scalar: 0, file: &file });
+    let (sew, policies, vl, vstart) = (32, UNDISTURBED, 4, 0);
+    let outcome = execute(&Request { word, vlen, sew, lmul, policies, vl, vstart, scalar: 0, file: &file });
     let expected = match (misaligned, reserved) {
         (true, _) => 6,
         (false, true) => 7,

@@ -1,4 +1,4 @@
--- `well_formed` looks at the length and at each record's zero byte. The loop's invariant is what is left: the zero bytes from record i on
+-- `well_formed` looks at the length and at each record's policy byte. The loop's invariant is what is left: the policy bytes from record i on
 -- tell the same as all of them.
 -- Assumes nothing.
 use Prim.Native.Nat.{ℕ, _-_, _*_, _/_, _%_, _≤_}
@@ -6,16 +6,16 @@ use mathlib.Core.Path.{_≡_, refl, sym, ap, _∙_}
 use native.Mathlib.Nat.{sub-zero}
 use native.Mathlib.Omega.{arith}
 use borrow.Author.Needs.{needs}
-use borrow.Author.Tests.{eq-eqb, ne-eqb}
+use borrow.Author.Tests.{eq-eqb, ne-eqb, le-leb, lt-leb}
 use lib.ListN.{length}
-use Rattle.trace_record.specs.Record.{zeroByteAt}
-use Rattle.trace_form.specs.Form.{zeroBytesFrom, wellFormed}
-use Rattle.trace_form.proofs.WellFormed.{zeros-more}
+use Rattle.trace_record.specs.Record.{recordAt}
+use Rattle.trace_form.specs.Form.{policiesFrom, wellFormed}
+use Rattle.trace_form.proofs.WellFormed.{policies-more}
 use Rattle.trace_form.proofs.well_formed.Statement.{statement}
 use Rattle.trace_form.proofs.well_formed.Tie as tie
 
 abbrev Inv-loop : tie.InvT-loop
-Inv-loop trace count i₀ i = (i ≤ count) × (zeroBytesFrom (count - i) trace (24 * i) ≡ zeroBytesFrom count trace 0)
+Inv-loop trace count i₀ i = (i ≤ count) × (policiesFrom (count - i) trace (24 * i) ≡ policiesFrom count trace 0)
 
 abbrev μ-loop : tie.MeasureT-loop
 μ-loop trace count i₀ i = count - i
@@ -29,7 +29,7 @@ returns c =
 loop-holds : tie.Need-loop-holds Inv-loop μ-loop
 loop-holds c =
     let trace = c .before .before .args .trace .now in
-    (omega arith, ap (λ (n : ℕ). zeroBytesFrom n trace 0) (sub-zero _))
+    (omega arith, ap (λ (n : ℕ). policiesFrom n trace 0) (sub-zero _))
 
 mul-read-le : tie.Need-mul-read-le Inv-loop μ-loop
 mul-read-le c = search needs
@@ -41,16 +41,16 @@ read-le-requires : tie.Need-read-le-requires Inv-loop μ-loop
 read-le-requires c κs = search needs
 
 returns-2 : tie.Need-returns-2 Inv-loop μ-loop
-unfolding wellFormed zeroByteAt
+unfolding wellFormed recordAt
 returns-2 c =
     let z = c .before in
     let l = z .before .before in
     let s = l .before .before .before in
     let trace = s .args .trace .now in
     let i = l .loop .i in
-    let other = ne-eqb (zeroByteAt trace (24 * i)) 0 (λ e. c .if2 .taken (z .read-le .ensures ∙ e)) in
+    let other = lt-leb (recordAt trace (24 * i) .policy) 3 (omega (arith, c .if2 .taken, z .read-le .ensures)) in
     rw (eq-eqb (length trace % 24) 0 (l .before .if1 .left))
-    (sym (zeros-more (length trace / 24) trace i (z .before .loop-test .taken) ∙ rw other refl) ∙ l .loop .inv .1)
+    (sym (policies-more (length trace / 24) trace i (z .before .loop-test .taken) ∙ rw other refl) ∙ l .loop .inv .1)
 
 add-i : tie.Need-add-i Inv-loop μ-loop
 add-i c = search needs
@@ -59,20 +59,20 @@ loop-less : tie.Need-loop-less Inv-loop μ-loop
 loop-less c = omega arith
 
 loop-again : tie.Need-loop-again Inv-loop μ-loop
-unfolding zeroByteAt
+unfolding recordAt
 loop-again c =
     let z = c .before in
     let l = z .before .before in
     let trace = l .before .before .before .args .trace .now in
     let i = l .loop .i in
     let n = length trace / 24 in
-    let is-zero = eq-eqb (zeroByteAt trace (24 * i)) 0 (sym (z .read-le .ensures) ∙ c .if2 .left) in (
+    let allowed = le-leb (recordAt trace (24 * i) .policy) 3 (omega (arith, c .if2 .left, z .read-le .ensures)) in (
       omega arith,
-      sym (zeros-more n trace i (z .before .loop-test .taken) ∙ rw is-zero refl) ∙ l .loop .inv .1,
+      sym (policies-more n trace i (z .before .loop-test .taken) ∙ rw allowed refl) ∙ l .loop .inv .1,
     )
 
 returns-3 : tie.Need-returns-3 Inv-loop μ-loop
-unfolding wellFormed zeroBytesFrom
+unfolding wellFormed policiesFrom
 returns-3 c =
     let l = c .before in
     let trace = l .before .before .before .args .trace .now in
@@ -80,7 +80,7 @@ returns-3 c =
     let n = length trace / 24 in
     let none : n - i ≡ 0 = omega arith in
     rw (eq-eqb (length trace % 24) 0 (l .before .if1 .left))
-    (sym (ap (λ (k : ℕ). zeroBytesFrom k trace (24 * i)) none) ∙ l .loop .inv .1)
+    (sym (ap (λ (k : ℕ). policiesFrom k trace (24 * i)) none) ∙ l .loop .inv .1)
 
 pub well-formed-spec : {M : Type 1} → statement M
 well-formed-spec =

@@ -23,6 +23,9 @@ short-at-requires-5 c κs = search needs
 short-at-requires-6 : tie.Need-short-at-requires-6
 short-at-requires-6 c κs = search needs
 
+short-at-requires-7 : tie.Need-short-at-requires-7
+short-at-requires-7 c κs = search needs
+
 number-at-requires : tie.Need-number-at-requires
 number-at-requires c κs = search needs
 
@@ -31,7 +34,8 @@ unfolding recordAt
 returns c =
     let vstart = c .before in
     let vl = vstart .before in
-    let answer = vl .before in
+    let policy = vl .before in
+    let answer = policy .before in
     let lmul = answer .before in
     let sew = lmul .before in
     let word = sew .before in
@@ -40,8 +44,9 @@ returns c =
       sew = sew .short-at2 .ensures i;
       lmul = lmul .short-at3 .ensures i;
       answer = answer .short-at4 .ensures i;
-      vl = vl .short-at5 .ensures i;
-      vstart = vstart .short-at6 .ensures i;
+      policy = policy .short-at5 .ensures i;
+      vl = vl .short-at6 .ensures i;
+      vstart = vstart .short-at7 .ensures i;
       scalar = c .number-at .ensures i;
     }
 
@@ -55,5 +60,6 @@ record-at-spec =
     short-at-requires-4
     short-at-requires-5
     short-at-requires-6
+    short-at-requires-7
     number-at-requires
     returns)

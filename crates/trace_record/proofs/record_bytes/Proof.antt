@@ -64,8 +64,17 @@ write-le-requires-6 c κs = search needs
 slice-aggregate-write-le-7 : tie.Need-slice-aggregate-write-le-7
 slice-aggregate-write-le-7 c = search needs
 
+cast-write-le-7 : tie.Need-cast-write-le-7
+cast-write-le-7 c = search needs
+
 write-le-requires-7 : tie.Need-write-le-requires-7
 write-le-requires-7 c κs = search needs
+
+slice-aggregate-write-le-8 : tie.Need-slice-aggregate-write-le-8
+slice-aggregate-write-le-8 c = search needs
+
+write-le-requires-8 : tie.Need-write-le-requires-8
+write-le-requires-8 c κs = search needs
 
 returns : tie.Need-returns
 unfolding writeLe leBytes recordBytes
@@ -73,14 +82,16 @@ returns c =
     let scalar = c .before in
     let vstart = scalar .before .before .before in
     let vl = vstart .before .before .before .before in
-    let answer = vl .before .before .before .before in
+    let policy = vl .before .before .before .before in
+    let answer = policy .before .before .before .before in
     let lmul = answer .before .before .before .before in
     let sew = lmul .before .before .before .before in
     let word = sew .before .before .before .before in
     rw (
-      scalar .write-le7 .ensures,
-      vstart .write-le6 .ensures,
-      vl .write-le5 .ensures,
+      scalar .write-le8 .ensures,
+      vstart .write-le7 .ensures,
+      vl .write-le6 .ensures,
+      policy .write-le5 .ensures,
       answer .write-le4 .ensures,
       lmul .write-le3 .ensures,
       sew .write-le2 .ensures,
@@ -111,5 +122,8 @@ record-bytes-spec =
     cast-write-le-6
     write-le-requires-6
     slice-aggregate-write-le-7
+    cast-write-le-7
     write-le-requires-7
+    slice-aggregate-write-le-8
+    write-le-requires-8
     returns)

@@ -22,7 +22,9 @@ returns c =
     ∙ ap (λ (m : Multiplier). multiplierOf m (s .args .f) (s .args .s) (s .args .file .now) (s .args .i)) (sym (c .before .enum-told .given .1))
 
 returns-2 : tie.Need-returns-2
-returns-2 c = search needs
+returns-2 c =
+    let s = c .before .before .before .before in
+    ap (λ (m : Multiplier). multiplierOf m (s .args .f) (s .args .s) (s .args .file .now) (s .args .i)) (sym (c .before .m .given .1))
 
 pub multiplier-of-spec : {M : Type 1} → statement M
 multiplier-of-spec = tie.close (tie.spec enum-told element-requires enum-known-m returns returns-2)

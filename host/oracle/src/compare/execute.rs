@@ -1,10 +1,10 @@
 //! rvghash_execute: at the limits of each setting, on all words that differ outside vd and vs2, on GHASH words with
 //! every vd and vs2, on all pairs of 8-bit elements and all pairs of single bits of 64-bit ones, and on random input.
 
-use super::execute_inputs::{any, content, scalar, single_bits, vlmax, Case, MOST_FILE};
-use crate::ffi::rvghash_execute;
+use super::execute_inputs::{any, on_any_file, single_bits, vlmax, words_and_settings, Case, MOST_FILE};
+use crate::ffi::{rvghash_execute, rvghash_execute_policies};
 use crate::lent::{strays, Lent};
-use crate::model::execute::{execute, LMULS, SEWS, VLENS};
+use crate::model::execute::{execute, Policies, LMULS, VLENS};
 use crate::model::word::{Row, TABLE};
 use crate::report::{Bytes, Group, Hex, Run, Seen};
 use crate::rng::Rng;
@@ -25,23 +25,29 @@ struct Left {
     file: Bytes,
 }
 
-struct Memory {
+pub struct Memory {
     vstart: Lent,
     file: Lent,
 }
 
 impl Memory {
-    fn new() -> Memory {
+    pub fn new() -> Memory {
         Memory { vstart: Lent::write("vstart", 4), file: Lent::write("file", MOST_FILE) }
     }
 
     fn call(&mut self, rng: &mut Rng, c: &Case) -> Seen<Left> {
-        let vstart = self.vstart.lend_aligned(rng, &c.vstart.to_ne_bytes(), 4);
+        let vstart = self.vstart.lend_aligned(rng, &c.vstart.to_ne_bytes(), 4).cast();
         let file = self.file.lend(rng, &c.file.0);
+        let Case { vlen, sew, lmul, vl, .. } = *c;
+        let (word, scalar, file_len) = (c.word.0 as u32, c.scalar.0, c.file.0.len());
         // SAFETY: both pointers go with memory of the told length that nothing else uses.
         let answer = unsafe {
-            let word = c.word.0 as u32;
-            rvghash_execute(word, c.vlen, c.sew, c.lmul, c.vl, vstart.cast(), c.scalar.0, file, c.file.0.len())
+            match c.policies {
+                None => rvghash_execute(word, vlen, sew, lmul, vl, vstart, scalar, file, file_len),
+                Some(Policies { tail_agnostic: ta, mask_agnostic: ma }) => {
+                    rvghash_execute_policies(word, vlen, sew, lmul, ta, ma, vl, vstart, scalar, file, file_len)
+                }
+            }
         };
         let vstart = u32::from_ne_bytes(self.vstart.content().try_into().expect("4 bytes"));
         let left = Left { vstart, file: Bytes(self.file.content().to_vec()) };
@@ -49,7 +55,7 @@ impl Memory {
     }
 }
 
-fn compare(group: &mut Group, memory: &mut Memory, rng: &mut Rng, c: &Case) {
+pub fn compare(group: &mut Group, memory: &mut Memory, rng: &mut Rng, c: &Case) {
     let outcome = execute(&c.request());
     let left = Left { vstart: outcome.vstart, file: Bytes(outcome.file) };
     group.compare(c, Seen::expected(outcome.answer, left), || memory.call(rng, c));
@@ -69,19 +75,14 @@ fn random(run: &Run, memory: &mut Memory) {
 fn at_limits(run: &Run, memory: &mut Memory) {
     let mut group = Group::new(run, "rvghash_execute, at the limits");
     let mut rng = group.rng(0);
-    for row in &TABLE {
-        for vlen in VLENS {
-            for sew in SEWS {
-                for lmul in LMULS {
-                    limits_of_setting(&mut group, memory, &mut rng, row, [vlen, sew, lmul]);
-                }
-            }
-        }
+    for (row, setting) in words_and_settings() {
+        limits_of_setting(&mut group, memory, &mut rng, row, setting);
     }
     group.end(&[0, 3, 4, 5, 6, 7, 8]);
 }
 
-fn limits_of_setting(g: &mut Group, m: &mut Memory, rng: &mut Rng, row: &Row, [vlen, sew, lmul]: [u32; 3]) {
+fn limits_of_setting(g: &mut Group, m: &mut Memory, rng: &mut Rng, row: &Row, setting: [u32; 3]) {
+    let [vlen, sew, lmul] = setting;
     let most = vlmax(vlen, sew, lmul);
     for vl in [0, 1, 4, 5, most.saturating_sub(4), most - 1, most, most + 1, most + 4] {
         for vstart in [0, 1, 4, vl] {
@@ -91,10 +92,9 @@ fn limits_of_setting(g: &mut Group, m: &mut Memory, rng: &mut Rng, row: &Row, [v
                     *register = 31;
                 }
                 let [vd, vs2, vs1] = registers;
-                let word = Hex(row.encode(rng.below_u32(2), vs2, vs1, vd) as u64);
-                let file = content(rng, 32 * vlen as usize / 8, vlen);
-                let scalar = Hex(scalar(rng));
-                compare(g, m, rng, &Case { word, vlen, sew, lmul, vl, vstart, scalar, file });
+                let word = row.encode(rng.below_u32(2), vs2, vs1, vd);
+                let case = on_any_file(rng, word, setting, vl, vstart);
+                compare(g, m, rng, &case);
             }
         }
     }
@@ -113,7 +113,7 @@ fn all_words(run: &Run, memory: &mut Memory) {
         for vs1 in vs1_fields {
             let word = Hex(funct6_vm << 25 | vs2 << 20 | vs1 << 15 | funct3 << 12 | vd << 7 | opcode);
             let (scalar, file) = (Hex(rng.u64()), file.clone());
-            let case = Case { word, vlen: 128, sew: 32, lmul: 1, vl: 4, vstart: 0, scalar, file };
+            let case = Case { word, vlen: 128, sew: 32, lmul: 1, policies: None, vl: 4, vstart: 0, scalar, file };
             compare(&mut group, memory, &mut rng, &case);
         }
     }
@@ -137,10 +137,10 @@ fn all_vd_and_vs2(run: &Run, memory: &mut Memory) {
 fn all_vd_and_vs2_of_setting(g: &mut Group, m: &mut Memory, rng: &mut Rng, row: &Row, [vlen, lmul]: [u32; 2]) {
     for vd_vs2 in 0..32 * 32 {
         let vs1 = lmul * rng.below_u32(32 / lmul);
-        let word = Hex(row.encode(1, vd_vs2 % 32, vs1, vd_vs2 / 32) as u64);
-        let (vl, vstart) = (vlmax(vlen, 32, lmul), rng.pick(&[0, 4]));
-        let (scalar, file) = (Hex(rng.u64()), content(rng, 32 * vlen as usize / 8, vlen));
-        compare(g, m, rng, &Case { word, vlen, sew: 32, lmul, vl, vstart, scalar, file });
+        let word = row.encode(1, vd_vs2 % 32, vs1, vd_vs2 / 32);
+        let vstart = rng.pick(&[0, 4]);
+        let case = on_any_file(rng, word, [vlen, 32, lmul], vlmax(vlen, 32, lmul), vstart);
+        compare(g, m, rng, &case);
     }
 }
 
@@ -154,8 +154,8 @@ fn all_bytes(run: &Run, memory: &mut Memory) {
             file[512..1024].iter_mut().enumerate().for_each(|(i, b)| *b = i as u8);
             file[1024..1536].fill(byte);
             let word = Hex(row.encode(1, 8, 16, 24) as u64);
-            let scalar = Hex(rng.u64() << 8 | byte as u64);
-            let case = Case { word, vlen: 512, sew: 8, lmul: 8, vl: 512, vstart: 0, scalar, file: Bytes(file) };
+            let (scalar, file) = (Hex(rng.u64() << 8 | byte as u64), Bytes(file));
+            let case = Case { word, vlen: 512, sew: 8, lmul: 8, policies: None, vl: 512, vstart: 0, scalar, file };
             compare(&mut group, memory, &mut rng, &case);
         }
     }

@@ -2,8 +2,8 @@
 //! A rate named `bad` is the number of wrong values in a thousand.
 
 use super::inputs;
-use crate::model::execute::{Request, LMULS, SEWS, VLENS};
-use crate::model::word::{Kind, TABLE};
+use crate::model::execute::{Policies, Request, LMULS, POLICIES, SEWS, UNDISTURBED, VLENS};
+use crate::model::word::{Kind, Row, TABLE};
 use crate::report::{Bytes, Hex};
 use crate::rng::Rng;
 
@@ -13,6 +13,8 @@ pub struct Case {
     pub vlen: u32,
     pub sew: u32,
     pub lmul: u32,
+    /// Those that rvghash_execute_policies takes; none where rvghash_execute is called.
+    pub policies: Option<Policies>,
     pub vl: u32,
     pub vstart: u32,
     pub scalar: Hex,
@@ -27,6 +29,7 @@ impl Case {
             vlen: self.vlen,
             sew: self.sew,
             lmul: self.lmul,
+            policies: self.policies.unwrap_or(UNDISTURBED),
             vl: self.vl,
             vstart: self.vstart,
             scalar: self.scalar.0,
@@ -54,6 +57,11 @@ pub fn any(rng: &mut Rng) -> Case {
     Case { file, ..call(rng, vlen, bad) }
 }
 
+/// Any case with policies.
+pub fn any_with_policies(rng: &mut Rng) -> Case {
+    Case { policies: Some(rng.pick(&POLICIES)), ..any(rng) }
+}
+
 /// Any call under this VLEN, with no file yet.
 pub fn call(rng: &mut Rng, vlen: u32, bad: usize) -> Case {
     let row = &TABLE[rng.below(8)];
@@ -70,11 +78,31 @@ pub fn call(rng: &mut Rng, vlen: u32, bad: usize) -> Case {
         vlen,
         sew,
         lmul,
+        policies: None,
         vl,
         vstart,
         scalar: Hex(scalar(rng)),
         file: Bytes(vec![]),
     }
+}
+
+/// Each word under each VLEN, SEW and LMUL.
+pub fn words_and_settings() -> Vec<(&'static Row, [u32; 3])> {
+    let mut all = Vec::new();
+    for row in &TABLE {
+        for vlen in VLENS {
+            for sew in SEWS {
+                all.extend(LMULS.map(|lmul| (row, [vlen, sew, lmul])));
+            }
+        }
+    }
+    all
+}
+
+/// This word with any scalar and on any file.
+pub fn on_any_file(rng: &mut Rng, word: u32, [vlen, sew, lmul]: [u32; 3], vl: u32, vstart: u32) -> Case {
+    let (scalar, file) = (Hex(scalar(rng)), content(rng, 32 * vlen as usize / 8, vlen));
+    Case { word: Hex(word as u64), vlen, sew, lmul, policies: None, vl, vstart, scalar, file }
 }
 
 /// A VLEN and a file of which one at least is not allowed.
@@ -97,7 +125,7 @@ pub fn single_bits(rng: &mut Rng) -> Vec<Case> {
             }
             let word = Hex(row.encode(1, 8, 16, 24) as u64);
             let (scalar, file) = (Hex(1 << bit), Bytes(file));
-            cases.push(Case { word, vlen: 512, sew: 64, lmul: 8, vl: 64, vstart: 0, scalar, file });
+            cases.push(Case { word, vlen: 512, sew: 64, lmul: 8, policies: None, vl: 64, vstart: 0, scalar, file });
         }
     }
     cases
@@ -117,7 +145,7 @@ pub fn keys_at_group(rng: &mut Rng) -> Vec<Case> {
                     let word = Hex(row.encode(1, vs2, 24, VD) as u64);
                     let (vl, scalar) = (vlmax(vlen, 32, lmul), Hex(rng.u64()));
                     let file = Bytes(rng.bytes(32 * vlen as usize / 8));
-                    cases.push(Case { word, vlen, sew: 32, lmul, vl, vstart: 0, scalar, file });
+                    cases.push(Case { word, vlen, sew: 32, lmul, policies: None, vl, vstart: 0, scalar, file });
                 }
             }
         }

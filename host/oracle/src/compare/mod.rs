@@ -8,6 +8,7 @@ mod hash;
 mod inputs;
 mod limit;
 mod past_32_bits;
+mod policies;
 mod product;
 mod record;
 mod replay;
@@ -26,6 +27,7 @@ pub use written::write;
 pub fn run(run: &Run) {
     watch_for_crashes();
     execute::run(run);
+    policies::run(run);
     group::run(run);
     product::run(run);
     hash::run(run);

@@ -4,8 +4,8 @@
 use super::group::{lend_number, number_in};
 use super::inputs::out_after;
 use super::running::{from_memory, to_memory, Shown};
-use crate::ffi::{rvghash_assemble, rvghash_degree, rvghash_disassemble, rvghash_execute, rvghash_put_record};
-use crate::ffi::{rvghash_replay, rvghash_step_back, PATHS, RUNNING_SIZE};
+use crate::ffi::{rvghash_assemble, rvghash_degree, rvghash_disassemble, rvghash_execute, rvghash_execute_policies};
+use crate::ffi::{rvghash_put_record, rvghash_replay, rvghash_step_back, PATHS, RUNNING_SIZE};
 use crate::lent::{huge, huge_with_pages, strays, Lent};
 use crate::model::field::{Block, ZERO};
 use crate::model::hash::LIMIT;
@@ -44,18 +44,27 @@ pub fn run(run: &Run) {
     group.end(&[0, 1, 2, 9, 11, 14, DIFFERS]);
 }
 
-/// A file length that is right once cut to 32 bits.
+/// A file length that is right once cut to 32 bits, without policies and with both.
 fn execute_file(group: &mut Group, rng: &mut Rng, zeros: &[u8]) {
+    const WORD: u32 = 0x3221_E0D7;
     let mut vstart = Lent::write("vstart", 4);
     for vlen in [128, 256, 512] {
-        let file_len = PAST + 4 * vlen as usize;
-        group.compare(&("rvghash_execute", vlen, file_len), Seen::expected(1, Bytes(vec![8, 0, 0, 0])), || {
-            let vstart_pointer = vstart.lend_aligned(rng, &[8, 0, 0, 0], 4).cast();
-            let file = zeros.as_ptr() as *mut u8;
-            // SAFETY: the file is readable; the call must refuse it, and a write would be a crash, which is told.
-            let answer = unsafe { rvghash_execute(0x3221_E0D7, vlen, 8, 1, 9, vstart_pointer, 3, file, file_len) };
-            Seen { answer, left: Bytes(vstart.content().to_vec()), stray: strays(&[&vstart]) }
-        });
+        for (name, with_policies) in [("rvghash_execute", false), ("rvghash_execute_policies", true)] {
+            let file_len = PAST + 4 * vlen as usize;
+            group.compare(&(name, vlen, file_len), Seen::expected(1, Bytes(vec![8, 0, 0, 0])), || {
+                let at = vstart.lend_aligned(rng, &[8, 0, 0, 0], 4).cast();
+                let file = zeros.as_ptr() as *mut u8;
+                // SAFETY: the file is readable; the call must refuse it, and a write would be a crash, which is told.
+                let answer = unsafe {
+                    if with_policies {
+                        rvghash_execute_policies(WORD, vlen, 8, 1, true, true, 9, at, 3, file, file_len)
+                    } else {
+                        rvghash_execute(WORD, vlen, 8, 1, 9, at, 3, file, file_len)
+                    }
+                };
+                Seen { answer, left: Bytes(vstart.content().to_vec()), stray: strays(&[&vstart]) }
+            });
+        }
     }
 }
 
@@ -181,7 +190,7 @@ fn records(group: &mut Group, rng: &mut Rng, front: *mut u8) {
     for record_len in [PAST, PAST + RECORD] {
         group.compare(&("rvghash_put_record", record_len), Seen::expected(14, Bytes(before.clone())), || {
             // SAFETY: so many bytes can be read; the call must refuse them.
-            let answer = unsafe { rvghash_put_record(0x3221_E0D7, 8, 1, 0, 1, 0, 3, front, record_len) };
+            let answer = unsafe { rvghash_put_record(0x3221_E0D7, 8, 1, true, true, 0, 1, 0, 3, front, record_len) };
             Seen::expected(answer, Bytes(content(front)))
         });
     }
@@ -214,7 +223,7 @@ fn torn_traces(group: &mut Group, rng: &mut Rng, trace: *mut u8) {
     }
 }
 
-/// A trace of 2^32 bytes and a few that differs at its first record, and then has a byte in the zero place of its last.
+/// A trace of 2^32 bytes and a few that differs at its first record, and then has a wrong policy byte in its last.
 fn whole_traces(group: &mut Group, rng: &mut Rng, trace: *mut u8) {
     const LEN: usize = PAST + 8 + RECORD;
     assert_eq!(LEN % RECORD, 0);
@@ -222,7 +231,7 @@ fn whole_traces(group: &mut Group, rng: &mut Rng, trace: *mut u8) {
     differs[6] = 1;
     put(trace, &differs);
     with_trace(group, rng, trace, LEN, DIFFERS);
-    put(trace.wrapping_add(LEN - RECORD), &[0, 0, 0, 0, 0, 0, 0, 1]);
+    put(trace.wrapping_add(LEN - RECORD), &[0, 0, 0, 0, 0, 0, 0, 4]);
     with_trace(group, rng, trace, LEN, 14);
 }
 

@@ -3,6 +3,7 @@
 
 use crate::ffi::rvghash_put_record;
 use crate::lent::{strays, Lent};
+use crate::model::execute::{Policies, POLICIES};
 use crate::model::record::{put_record_call, Record, RECORD};
 use crate::report::{Bytes, Group, Run, Seen};
 use crate::rng::Rng;
@@ -38,9 +39,12 @@ struct Memory {
 impl Memory {
     fn call(&mut self, rng: &mut Rng, p: &Put) -> Seen<Left> {
         let (record, len) = (self.record.lend(rng, &p.before.0), p.before.0.len());
-        let Record { word, sew, lmul, answer, vl, vstart, scalar } = p.record;
+        let Record { word, sew, lmul, answer, policies, vl, vstart, scalar } = p.record;
+        let Policies { tail_agnostic, mask_agnostic } = policies;
         // SAFETY: the pointer goes with memory of the told length that nothing else uses.
-        let answer = unsafe { rvghash_put_record(word, sew, lmul, answer, vl, vstart, scalar, record, len) };
+        let answer = unsafe {
+            rvghash_put_record(word, sew, lmul, tail_agnostic, mask_agnostic, answer, vl, vstart, scalar, record, len)
+        };
         let bytes = self.record.content();
         let read = if answer == 0 { Record::read(bytes) } else { None };
         let left = Left { bytes: Bytes(bytes.to_vec()), read };
@@ -60,14 +64,14 @@ pub fn run(run: &Run) {
     random(run, &mut memory);
 }
 
-/// SEW, LMUL and the answer at each of the numbers, then lent bytes of each length.
+/// SEW, LMUL and the answer at each of the numbers under each policy, then lent bytes of each length.
 fn at_limits(run: &Run, memory: &mut Memory) {
     let mut group = Group::new(run, "rvghash_put_record, at the limits");
     let mut rng = group.rng(0);
     for sew in NUMBERS {
         for lmul in NUMBERS {
-            for answer in NUMBERS {
-                let record = Record { sew, lmul, answer, ..any_record(&mut rng) };
+            for (answer, policies) in NUMBERS.into_iter().flat_map(|n| POLICIES.map(|policies| (n, policies))) {
+                let record = Record { sew, lmul, answer, policies, ..any_record(&mut rng) };
                 let before = Bytes(rng.bytes(RECORD));
                 memory.compare(&mut group, &mut rng, &Put { record, before });
             }
@@ -95,7 +99,7 @@ fn any_record(rng: &mut Rng) -> Record {
     let [word, vl, vstart] = [0; 3].map(|_| if rng.often(100) { rng.pick(&NUMBERS) } else { rng.u32() });
     let [sew, lmul, answer] = [0; 3].map(|_| rng.below_u32(256));
     let scalar = if rng.often(100) { rng.pick(&[0, 1, 1 << 32, 1 << 63, u64::MAX]) } else { rng.u64() };
-    Record { word, sew, lmul, answer, vl, vstart, scalar }
+    Record { word, sew, lmul, answer, policies: rng.pick(&POLICIES), vl, vstart, scalar }
 }
 
 /// A record that fits, or one in which numbers or the length are wrong.

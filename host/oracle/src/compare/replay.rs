@@ -1,10 +1,10 @@
 //! rvghash_replay: random traces, whole and with something wrong, also where VLEN or the file is not allowed; each byte
-//! as an answer and in the zero place, each place of a trace, each length, and a count past 16 bits.
+//! as an answer and as the policies, each place of a trace, each length, and a count past 16 bits.
 
 use super::execute_inputs::{not_allowed, MOST_FILE};
 use super::group::{lend_number, number_in};
-use super::trace_inputs::{allowed, any_recording, any_refused_recording, other_answer, with_mark};
-use super::trace_inputs::{Recording, Replay, MOST_TRACE};
+use super::trace_inputs::{allowed, any_recording, any_refused_recording, other_answer, with_policy_byte};
+use super::trace_inputs::{wrong_policies, Recording, Replay, MOST_TRACE};
 use crate::ffi::rvghash_replay;
 use crate::lent::{strays, Lent};
 use crate::model::record::RECORD;
@@ -116,11 +116,11 @@ fn answering(rng: &mut Rng, answer: u32) -> Recording {
     }
 }
 
-/// A wrong answer, and a byte in the zero place, at each place of a trace; then each byte in the zero place of the first,
-/// a middle and the last record.
+/// A wrong answer, and a wrong policy byte, at each place of a trace; then each policy byte in the first, a middle and
+/// the last record.
 fn places(run: &Run, memory: &mut Memory) {
     const COUNT: usize = 60;
-    let mut group = Group::new(run, "rvghash_replay, each place of a trace and each byte in the zero place");
+    let mut group = Group::new(run, "rvghash_replay, each place of a trace and each policy byte");
     for index in 0..4 * run.factor {
         let mut rng = group.rng(index);
         let at = allowed(&mut rng);
@@ -128,16 +128,17 @@ fn places(run: &Run, memory: &mut Memory) {
         for place in 0..COUNT {
             let answer = other_answer(&mut rng, recording.records[place].answer);
             memory.compare(&mut group, &mut rng, &recording.replay(recording.with_answer(place, answer)));
-            let mark = 1 + rng.below(255) as u8;
-            memory.compare(&mut group, &mut rng, &recording.replay(with_mark(recording.trace(), place, mark)));
+            let trace = with_policy_byte(recording.trace(), place, wrong_policies(&mut rng));
+            memory.compare(&mut group, &mut rng, &recording.replay(trace));
         }
-        for mark in 1..=255 {
+        for byte in 0..=255 {
             for place in [0, 1 + rng.below(COUNT - 2), COUNT - 1] {
-                memory.compare(&mut group, &mut rng, &recording.replay(with_mark(recording.trace(), place, mark)));
+                let trace = with_policy_byte(recording.trace(), place, byte);
+                memory.compare(&mut group, &mut rng, &recording.replay(trace));
             }
         }
     }
-    group.end(&[14, DIFFERS]);
+    group.end(&[0, 14, DIFFERS]);
 }
 
 /// The first bytes of a trace, of each number up to eight records, and of some up to the longest.
@@ -155,7 +156,7 @@ fn lengths(run: &Run, memory: &mut Memory) {
     group.end(&[0, 14]);
 }
 
-/// More records than 16 bits count: a wrong answer, and a byte in the zero place, on both sides of 2^8 and of 2^16.
+/// More records than 16 bits count: a wrong answer, and a wrong policy byte, on both sides of 2^8 and of 2^16.
 fn many_records(run: &Run) {
     let mut group = Group::new(run, "rvghash_replay, more than 65,536 records");
     let mut rng = group.rng(0);
@@ -167,7 +168,7 @@ fn many_records(run: &Run) {
     for place in [255, 256, 257, 65_535, 65_536, 65_537, count - 1] {
         let answer = other_answer(&mut rng, recording.records[place].answer);
         memory.compare(&mut group, &mut rng, &recording.replay(recording.with_answer(place, answer)));
-        memory.compare(&mut group, &mut rng, &recording.replay(with_mark(recording.trace(), place, 1)));
+        memory.compare(&mut group, &mut rng, &recording.replay(with_policy_byte(recording.trace(), place, 4)));
     }
     group.end(&[0, 14, DIFFERS]);
 }

@@ -1,8 +1,8 @@
-//! Traces: calls in a row with the model's answers, and the same with wrong answers, torn, or with a byte in the zero
-//! place. A rate named `bad` is the number of wrong values in a thousand.
+//! Traces: calls in a row with the model's answers, and the same with wrong answers, torn, or with a wrong policy byte.
+//! A rate named `bad` is the number of wrong values in a thousand.
 
 use super::execute_inputs::{call, content, not_allowed};
-use crate::model::execute::{execute, VLENS};
+use crate::model::execute::{execute, POLICIES, UNDISTURBED, VLENS};
 use crate::model::record::{Record, RECORD};
 use crate::report::Bytes;
 use crate::rng::Rng;
@@ -13,8 +13,8 @@ const MOST_RECORDS: usize = 200;
 /// The longest of these traces, which is torn.
 pub const MOST_TRACE: usize = MOST_RECORDS * RECORD + RECORD - 1;
 
-/// The place of a record's zero byte.
-const ZERO_BYTE: usize = 7;
+/// The place of a record's policy byte.
+const POLICY_BYTE: usize = 7;
 
 /// The places of vd and vs2 in a word.
 const VD: u32 = 7;
@@ -43,9 +43,12 @@ impl Recording {
         let mut recording = Recording { vlen, file, records: vec![], changes: vec![] };
         // Where no call writes registers 0 to 15, not all of the file becomes zero in the long run.
         let upper_half = if rng.often(750) { 16 << VD } else { 0 };
+        // An old trace has no policies.
+        let policies: &[_] = if rng.often(250) { &[UNDISTURBED] } else { &POLICIES };
         for _ in 0..count {
             let mut record = call_after(rng, vlen, recording.records.last(), bad);
             record.word |= upper_half;
+            record.policies = rng.pick(policies);
             let ours = execute(&record.request(vlen, &now));
             recording.records.push(Record { answer: ours.answer, ..record });
             recording.changes.push(ours.file != now);
@@ -57,7 +60,8 @@ impl Recording {
     /// The same calls as every 256th record; the word 0, which is refused, makes up the others.
     pub fn spread(&self) -> Recording {
         const APART: usize = 256;
-        const REFUSED: Record = Record { word: 0, sew: 8, lmul: 1, answer: 2, vl: 1, vstart: 0, scalar: 0 };
+        const REFUSED: Record =
+            Record { word: 0, sew: 8, lmul: 1, answer: 2, policies: UNDISTURBED, vl: 1, vstart: 0, scalar: 0 };
         let mut spread = Recording { vlen: self.vlen, file: self.file.clone(), records: vec![], changes: vec![] };
         for (record, changes) in self.records.iter().zip(&self.changes) {
             spread.records.push(*record);
@@ -110,11 +114,11 @@ impl Recording {
         (!places.is_empty()).then(|| rng.pick(&places))
     }
 
-    /// The trace as it is, with wrong answers, torn, and with a byte in the zero place; the last two have wrong answers
-    /// at times.
+    /// The trace as it is, with wrong answers, torn, and with a wrong policy byte; the last two have wrong answers at
+    /// times.
     pub fn replays(&self, rng: &mut Rng) -> [Replay; 4] {
         let [one, other] = [0; 2].map(|_| if rng.often(300) { self.with_wrong_answers(rng) } else { self.trace() });
-        let traces = [self.trace(), self.with_wrong_answers(rng), torn(rng, one), with_any_mark(rng, other)];
+        let traces = [self.trace(), self.with_wrong_answers(rng), torn(rng, one), with_wrong_policies(rng, other)];
         traces.map(|trace| self.replay(trace))
     }
 }
@@ -124,7 +128,7 @@ fn bytes(records: &[Record]) -> Vec<u8> {
     records.iter().flat_map(|record| record.bytes().expect("numbers that fit")).collect()
 }
 
-/// A call that a record can hold. It often writes or reads what the last one wrote.
+/// A call that a record can hold, without policies. It often writes or reads what the last one wrote.
 fn call_after(rng: &mut Rng, vlen: u32, last: Option<&Record>, bad: usize) -> Record {
     let c = call(rng, vlen, bad);
     let mut word = c.word.0 as u32;
@@ -134,7 +138,7 @@ fn call_after(rng: &mut Rng, vlen: u32, last: Option<&Record>, bad: usize) -> Re
     }
     let [sew, lmul] = [c.sew, c.lmul].map(|setting| setting & 255);
     let vstart = if rng.often(500) { 0 } else { c.vstart };
-    Record { word, sew, lmul, answer: 0, vl: c.vl, vstart, scalar: c.scalar.0 }
+    Record { word, sew, lmul, answer: 0, policies: UNDISTURBED, vl: c.vl, vstart, scalar: c.scalar.0 }
 }
 
 /// An answer byte that is not ours: done, one bit off, another number of the executor's, or any.
@@ -158,21 +162,27 @@ fn torn(rng: &mut Rng, mut trace: Vec<u8>) -> Vec<u8> {
     trace
 }
 
-/// The trace with this byte in a record's zero place.
-pub fn with_mark(mut trace: Vec<u8>, place: usize, mark: u8) -> Vec<u8> {
-    trace[RECORD * place + ZERO_BYTE] = mark;
+/// The trace with this policy byte in one record.
+pub fn with_policy_byte(mut trace: Vec<u8>, place: usize, byte: u8) -> Vec<u8> {
+    trace[RECORD * place + POLICY_BYTE] = byte;
     trace
 }
 
-/// The trace with a byte in the zero place of its first, its last or any record, if it has one.
-fn with_any_mark(rng: &mut Rng, trace: Vec<u8>) -> Vec<u8> {
+/// A policy byte that is refused.
+pub fn wrong_policies(rng: &mut Rng) -> u8 {
+    let any = 4 + rng.below(252) as u8;
+    rng.pick(&[4, 5, 128, 255, any, any])
+}
+
+/// The trace with a wrong policy byte in its first, its last or any record, if it has one.
+fn with_wrong_policies(rng: &mut Rng, trace: Vec<u8>) -> Vec<u8> {
     let count = trace.len() / RECORD;
     if count == 0 {
         return trace;
     }
     let any = rng.below(count);
-    let (place, any_mark) = (rng.pick(&[0, count - 1, any]), 1 + rng.below(255) as u8);
-    with_mark(trace, place, rng.pick(&[1, 2, 128, any_mark, any_mark]))
+    let place = rng.pick(&[0, count - 1, any]);
+    with_policy_byte(trace, place, wrong_policies(rng))
 }
 
 /// A VLEN that is allowed, and a file for it.

@@ -1,7 +1,7 @@
 //! Cases in a file, for a library of another machine: what each call is lent, and what it must answer and leave.
 //! host/tests/riscv_cases.h has the reader's side of the format.
 
-use super::execute_inputs::{any, keys_at_group, single_bits, Case};
+use super::execute_inputs::{any, any_with_policies, keys_at_group, single_bits, Case};
 use super::hash::cut;
 use super::inputs::{block, out_after, out_before, part_length, perhaps_odd};
 use super::record::any_put;
@@ -11,7 +11,7 @@ use super::texts::any_text;
 use super::trace_inputs::{any_recording, any_refused_recording, Replay};
 use super::word_inputs::{any_buffer, any_fields, any_word};
 use crate::ffi::{Path, PATHS};
-use crate::model::execute::execute;
+use crate::model::execute::{execute, Policies};
 use crate::model::field::{Block, ZERO};
 use crate::model::hash::ghash_call;
 use crate::model::record::put_record_call;
@@ -38,6 +38,7 @@ enum Function {
     Assemble,
     PutRecord,
     Replay,
+    ExecutePolicies,
 }
 
 impl Function {
@@ -56,6 +57,7 @@ impl Function {
             Function::Assemble => 13,
             Function::PutRecord => 14,
             Function::Replay => 15,
+            Function::ExecutePolicies => 16,
         }
     }
 }
@@ -73,6 +75,11 @@ fn lent<'a>(align: u32, before: &'a [u8], after: &'a [u8]) -> Lent<'a> {
 
 fn read(bytes: &Bytes) -> Lent<'_> {
     lent(1, &bytes.0, &bytes.0)
+}
+
+/// tail_agnostic and mask_agnostic as scalars.
+fn numbers_of(policies: Policies) -> [u64; 2] {
+    [policies.tail_agnostic, policies.mask_agnostic].map(u64::from)
 }
 
 struct Cases {
@@ -104,12 +111,20 @@ impl Cases {
         self.execution(&any(rng))
     }
 
+    fn any_execution_with_policies(&mut self, rng: &mut Rng) -> Result<()> {
+        self.execution(&any_with_policies(rng))
+    }
+
+    /// The scalars of both calls are the same: a call without policies has both off.
     fn execution(&mut self, c: &Case) -> Result<()> {
-        let after = execute(&c.request());
-        let scalars = [c.word.0, c.vlen as u64, c.sew as u64, c.lmul as u64, c.vl as u64, c.scalar.0];
+        let (request, function) = (c.request(), c.policies.map_or(Function::Execute, |_| Function::ExecutePolicies));
+        let after = execute(&request);
+        let [vlen, sew, lmul, vl] = [c.vlen, c.sew, c.lmul, c.vl].map(u64::from);
+        let [tail_agnostic, mask_agnostic] = numbers_of(request.policies);
+        let scalars = [c.word.0, vlen, sew, lmul, tail_agnostic, mask_agnostic, vl, c.scalar.0];
         let vstart = [c.vstart, after.vstart].map(u32::to_le_bytes);
         let buffers = [lent(4, &vstart[0], &vstart[1]), lent(1, &c.file.0, &after.file)];
-        self.call(Function::Execute, after.answer, &scalars, &buffers)
+        self.call(function, after.answer, &scalars, &buffers)
     }
 
     fn step_back(&mut self, rng: &mut Rng) -> Result<()> {
@@ -207,7 +222,8 @@ impl Cases {
         let (answer, after) = put_record_call(&put.record, &put.before.0);
         let r = &put.record;
         let [word, sew, lmul, told, vl, vstart] = [r.word, r.sew, r.lmul, r.answer, r.vl, r.vstart].map(u64::from);
-        let scalars = [word, sew, lmul, told, vl, vstart, r.scalar];
+        let [tail_agnostic, mask_agnostic] = numbers_of(r.policies);
+        let scalars = [word, sew, lmul, tail_agnostic, mask_agnostic, told, vl, vstart, r.scalar];
         self.call(Function::PutRecord, answer, &scalars, &[lent(1, &put.before.0, &after)])
     }
 
@@ -228,9 +244,10 @@ impl Cases {
 /// Writes the cases of this seed.
 pub fn write(run: &Run, path: &str) -> Result<()> {
     let mut cases = Cases { out: BufWriter::new(File::create(path)?) };
-    cases.out.write_all(b"rvghash cases 1\n")?;
-    let groups: [(&str, u64, fn(&mut Cases, &mut Rng) -> Result<()>); 10] = [
+    cases.out.write_all(b"rvghash cases 2\n")?;
+    let groups: [(&str, u64, fn(&mut Cases, &mut Rng) -> Result<()>); 11] = [
         ("executions", 24_000, Cases::any_execution),
+        ("executions with policies", 12_000, Cases::any_execution_with_policies),
         ("step backs", 1_200, Cases::step_back),
         ("messages, whole and in pieces", 600, Cases::message),
         ("running hashes, any fields", 10_000, Cases::any_running),

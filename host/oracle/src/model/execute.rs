@@ -1,4 +1,5 @@
-//! The executor: all sources are read from the file at entry, all results are written to a copy of it.
+//! The executor: all sources are read from the file at entry. What is written is a copy of it, in which vd's group is
+//! walked once: each part of it stays, gets its result, or becomes ones.
 
 use super::field::{sixteen, step, Block, ZERO};
 use super::poly::Poly;
@@ -9,11 +10,29 @@ pub const VLENS: [u32; 3] = [128, 256, 512];
 pub const SEWS: [u32; 4] = [8, 16, 32, 64];
 pub const LMULS: [u32; 4] = [1, 2, 4, 8];
 
+/// vta and vma of vtype: what is not active is filled with ones bits, or is left undisturbed.
+#[derive(Clone, Copy, PartialEq, Eq, Debug)]
+pub struct Policies {
+    pub tail_agnostic: bool,
+    pub mask_agnostic: bool,
+}
+
+/// Both off, the tail's alone, the mask's alone, both.
+pub const POLICIES: [Policies; 4] = [
+    Policies { tail_agnostic: false, mask_agnostic: false },
+    Policies { tail_agnostic: true, mask_agnostic: false },
+    Policies { tail_agnostic: false, mask_agnostic: true },
+    Policies { tail_agnostic: true, mask_agnostic: true },
+];
+
+pub const UNDISTURBED: Policies = POLICIES[0];
+
 pub struct Request<'a> {
     pub word: u32,
     pub vlen: u32,
     pub sew: u32,
     pub lmul: u32,
+    pub policies: Policies,
     pub vl: u32,
     pub vstart: u32,
     pub scalar: u64,
@@ -29,8 +48,7 @@ pub struct Outcome {
 pub fn execute(r: &Request) -> Outcome {
     let word = decode(r.word);
     match (refusal(r, word), word) {
-        (0, Some(word)) if word.kind.is_ghash() => Outcome { answer: 0, vstart: 0, file: r.groups(&word) },
-        (0, Some(word)) => Outcome { answer: 0, vstart: 0, file: r.elements(&word) },
+        (0, Some(word)) => Outcome { answer: 0, vstart: 0, file: r.written(&word) },
         (answer, _) => Outcome { answer, vstart: r.vstart, file: r.file.to_vec() },
     }
 }
@@ -52,25 +70,59 @@ fn refusal(r: &Request, word: Option<Word>) -> u32 {
     ])
 }
 
+/// What a word does with an element of vd's group.
+enum Rule {
+    Stays,
+    Result,
+    Ones,
+}
+
 impl Request<'_> {
     /// The first byte of a register.
     fn register(&self, r: u32) -> usize {
         (r * self.vlen / 8) as usize
     }
 
-    /// Where element i of the group at r begins.
-    fn element_place(&self, r: u32, i: u32) -> usize {
-        self.register(r) + (i * self.sew / 8) as usize
-    }
-
     fn element(&self, r: u32, i: u32) -> u64 {
-        let place = self.element_place(r, i);
+        let place = self.register(r) + (i * self.sew / 8) as usize;
         let bytes = &self.file[place..place + self.sew as usize / 8];
         bytes.iter().rev().fold(0, |value, &byte| value << 8 | byte as u64)
     }
 
     fn mask_bit(&self, i: u32) -> bool {
         self.file[i as usize / 8] >> (i % 8) & 1 == 1
+    }
+
+    /// Document 01's Execution and document 02's Ask 5, for element i.
+    fn rule(&self, word: &Word, i: u32) -> Rule {
+        let filled_if = |agnostic: bool| if agnostic { Rule::Ones } else { Rule::Stays };
+        if self.vstart >= self.vl || i < self.vstart {
+            Rule::Stays
+        } else if i >= self.vl {
+            filled_if(self.policies.tail_agnostic)
+        } else if !word.vm && !self.mask_bit(i) {
+            filled_if(self.policies.mask_agnostic)
+        } else {
+            Rule::Result
+        }
+    }
+
+    /// The file after a word. A GHASH word's parts are groups of four elements, which have one rule: vstart and vl are
+    /// multiples of 4, and there is no mask.
+    fn written(&self, word: &Word) -> Vec<u8> {
+        let elements = if word.kind.is_ghash() { 4 } else { 1 };
+        let size = (elements * self.sew / 8) as usize;
+        let mut file = self.file.to_vec();
+        let vd_group = &mut file[self.register(word.vd)..self.register(word.vd + self.lmul)];
+        for (i, part) in (0..).zip(vd_group.chunks_mut(size)) {
+            match self.rule(word, elements * i) {
+                Rule::Stays => {}
+                Rule::Ones => part.fill(0xFF),
+                Rule::Result if word.kind.is_ghash() => part.copy_from_slice(&self.hashed(word, i)),
+                Rule::Result => part.copy_from_slice(&self.multiplied(word, i).to_le_bytes()[..size]),
+            }
+        }
+        file
     }
 
     fn modulo_sew(&self, value: u128) -> u64 {
@@ -85,38 +137,22 @@ impl Request<'_> {
         }
     }
 
-    /// The file after a carry-less word.
-    fn elements(&self, word: &Word) -> Vec<u8> {
-        let mut file = self.file.to_vec();
-        for i in (self.vstart..self.vl).filter(|&i| word.vm || self.mask_bit(i)) {
-            let product = Poly::product(self.element(word.vs2, i) as u128, self.multiplier(word, i) as u128).low;
-            let result = self.modulo_sew(if word.kind.is_high() { product >> self.sew } else { product });
-            let place = self.element_place(word.vd, i);
-            let size = self.sew as usize / 8;
-            file[place..place + size].copy_from_slice(&result.to_le_bytes()[..size]);
-        }
-        file
-    }
-
-    fn group_place(&self, r: u32, i: u32) -> usize {
-        self.register(r) + 16 * i as usize
+    /// The result of a carry-less word for element i.
+    fn multiplied(&self, word: &Word, i: u32) -> u64 {
+        let product = Poly::product(self.element(word.vs2, i) as u128, self.multiplier(word, i) as u128).low;
+        self.modulo_sew(if word.kind.is_high() { product >> self.sew } else { product })
     }
 
     fn group(&self, r: u32, i: u32) -> Block {
-        let place = self.group_place(r, i);
+        let place = self.register(r) + 16 * i as usize;
         sixteen(&self.file[place..place + 16])
     }
 
-    /// The file after a GHASH word. For vgmul, X is the zero block.
-    fn groups(&self, word: &Word) -> Vec<u8> {
-        let mut file = self.file.to_vec();
-        for i in self.vstart / 4..self.vl / 4 {
-            let y = self.group(word.vd, i);
-            let x = if word.kind.reads_vs1() { self.group(word.vs1, i) } else { ZERO };
-            let h = self.group(word.vs2, if word.kind.is_vs() { 0 } else { i });
-            let place = self.group_place(word.vd, i);
-            file[place..place + 16].copy_from_slice(&step(&y, &x, &h));
-        }
-        file
+    /// The result of a GHASH word for group i. For vgmul, X is the zero block.
+    fn hashed(&self, word: &Word, i: u32) -> Block {
+        let y = self.group(word.vd, i);
+        let x = if word.kind.reads_vs1() { self.group(word.vs1, i) } else { ZERO };
+        let h = self.group(word.vs2, if word.kind.is_vs() { 0 } else { i });
+        step(&y, &x, &h)
     }
 }

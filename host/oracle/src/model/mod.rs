@@ -1,4 +1,4 @@
-//! The independent model: document 01, and document 02's Asks 1 and 3, put into code by other methods than the
+//! The independent model: document 01, and document 02's Asks 1 and 3 to 5, put into code by other methods than the
 //! library's.
 
 pub mod execute;

@@ -1,8 +1,10 @@
-//! The record of a trace, as document 02's Ask 3 has it: numbers in a row, each in a part of its own, low byte first.
+//! The record of a trace, as document 02's Asks 3 and 5 have it: numbers in a row, each in a part of its own, low byte
+//! first.
 
+use super::execute::{Policies, POLICIES};
 use super::refusal::smallest;
 
-/// The bytes of the parts: word, SEW, LMUL, answer, the zero byte, vl, vstart, scalar.
+/// The bytes of the parts: word, SEW, LMUL, answer, the policies, vl, vstart, scalar.
 const PARTS: [usize; 8] = [4, 1, 1, 1, 1, 4, 4, 8];
 
 /// The bytes of a record.
@@ -15,9 +17,15 @@ pub struct Record {
     pub sew: u32,
     pub lmul: u32,
     pub answer: u32,
+    pub policies: Policies,
     pub vl: u32,
     pub vstart: u32,
     pub scalar: u64,
+}
+
+/// The policies' place in their list, where the tail's counts 1 and the mask's 2.
+fn policies_number(policies: Policies) -> usize {
+    POLICIES.into_iter().position(|listed| listed == policies).expect("one of the four")
 }
 
 impl Record {
@@ -25,7 +33,7 @@ impl Record {
     fn numbers(&self) -> [u64; 8] {
         let [word, sew, lmul, answer] = [self.word, self.sew, self.lmul, self.answer].map(u64::from);
         let [vl, vstart] = [self.vl, self.vstart].map(u64::from);
-        [word, sew, lmul, answer, 0, vl, vstart, self.scalar]
+        [word, sew, lmul, answer, policies_number(self.policies) as u64, vl, vstart, self.scalar]
     }
 
     /// The record, if each number fits its part.
@@ -42,19 +50,20 @@ impl Record {
         Some(bytes)
     }
 
-    /// The call and answer of a whole record whose zero byte is zero.
+    /// The call and answer of a whole record whose policies are 0 to 3.
     pub fn read(bytes: &[u8]) -> Option<Record> {
         if bytes.len() != RECORD {
             return None;
         }
         let mut rest = bytes;
-        let [word, sew, lmul, answer, zero, vl, vstart, scalar] = PARTS.map(|size| {
+        let [word, sew, lmul, answer, policies, vl, vstart, scalar] = PARTS.map(|size| {
             let (part, after) = rest.split_at(size);
             rest = after;
             part.iter().rev().fold(0, |number, &byte| number << 8 | byte as u64)
         });
         let [word, sew, lmul, answer, vl, vstart] = [word, sew, lmul, answer, vl, vstart].map(|number| number as u32);
-        (zero == 0).then_some(Record { word, sew, lmul, answer, vl, vstart, scalar })
+        let policies = *POLICIES.get(policies as usize)?;
+        Some(Record { word, sew, lmul, answer, policies, vl, vstart, scalar })
     }
 }
 

@@ -17,8 +17,8 @@ pub struct Replayed {
 impl Record {
     /// The call of this record on a file.
     pub fn request<'a>(&self, vlen: u32, file: &'a [u8]) -> Request<'a> {
-        let Record { word, sew, lmul, vl, vstart, scalar, .. } = *self;
-        Request { word, vlen, sew, lmul, vl, vstart, scalar, file }
+        let Record { word, sew, lmul, policies, vl, vstart, scalar, .. } = *self;
+        Request { word, vlen, sew, lmul, policies, vl, vstart, scalar, file }
     }
 }
 

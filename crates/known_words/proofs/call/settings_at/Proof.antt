@@ -1,4 +1,4 @@
--- `settings_at` reads the five settings. Assumes nothing.
+-- `settings_at` reads the settings. Assumes nothing.
 use borrow.Author.Needs.{needs}
 use Rattle.known_words.proofs.call.settings_at.Statement.{statement}
 use Rattle.known_words.proofs.call.settings_at.Tie as tie
@@ -18,14 +18,22 @@ number-at-requires-4 c κs = search needs
 number-at-requires-5 : tie.Need-number-at-requires-5
 number-at-requires-5 c κs = search needs
 
+number-at-requires-6 : tie.Need-number-at-requires-6
+number-at-requires-6 c κs = search needs
+
+number-at-requires-7 : tie.Need-number-at-requires-7
+number-at-requires-7 c κs = search needs
+
 returns : tie.Need-returns
 returns c =
     rw (
-      c .before .before .before .before .number-at .ensures,
-      c .before .before .before .number-at2 .ensures,
-      c .before .before .number-at3 .ensures,
-      c .before .number-at4 .ensures,
-      c .number-at5 .ensures,
+      c .before .before .before .before .before .before .number-at .ensures,
+      c .before .before .before .before .before .number-at2 .ensures,
+      c .before .before .before .before .number-at3 .ensures,
+      c .before .before .before .number-at4 .ensures,
+      c .before .before .number-at5 .ensures,
+      c .before .number-at6 .ensures,
+      c .number-at7 .ensures,
     )
 
 pub settings-at-spec : {M : Type 1} → statement M
@@ -37,4 +45,6 @@ settings-at-spec =
     number-at-requires-3
     number-at-requires-4
     number-at-requires-5
+    number-at-requires-6
+    number-at-requires-7
     returns)

@@ -4,10 +4,10 @@ use mathlib.Core.Path.{ap}
 use lib.Dec.{eqb}
 use borrow.Author.Tests.{eq-eqb, ne-eqb}
 use Rattle.vector_word.proofs.Tests.{or-here, or-next}
 use Rattle.vector_element.specs.Element.{maskBit}
 use borrow.Author.Needs.{needs}
-use Rattle.vector_clmul.proofs.active.Statement.{statement}
-use Rattle.vector_clmul.proofs.active.Tie as tie
+use Rattle.vector_element.proofs.element.active.Statement.{statement}
+use Rattle.vector_element.proofs.element.active.Tie as tie
 
 returns : tie.Need-returns
 returns c =
