@@ -1,12 +1,12 @@
 -- Numbers and their bytes, the lowest first: a read and a write by one more byte, past the end, their bounds, a write read again, and the
 -- bytes of a number read, and of a read number.
--- Main results: `read-lt`, `le-same`, `readLe-same`, `writeLe-other`, `writeLe-read`, `writeLe-bytes`, `read-leBytes`, `leBytes-read`.
+-- Main results: `read-lt`, `readLe-byte`, `le-same`, `readLe-same`, `writeLe-other`, `writeLe-read`, `writeLe-bytes`, `read-leBytes`, `leBytes-read`.
 -- Assumes nothing.
 use mathlib.Core.Path.{_≡_, refl, sym, ap, ap₂, subst, _∙_}
 use mathlib.Core.List.{List, [], _∷_, _++_}
 use Prim.Native.Nat.{ℕ, zero, suc, _+_, _-_, _*_, _/_, _%_, _^_, _<_, _≤_}
 use native.Mathlib.Decide.{decLe, ℕ-discrete}
-use native.Mathlib.Nat.{zero-lt-suc, lt-of-lt-of-le, lt-of-not-le, le-of-eq, mod-lt, pow-suc, mod-one, add-zero}
+use native.Mathlib.Nat.{zero-lt-suc, lt-of-lt-of-le, lt-of-not-le, le-of-eq, mod-lt, pow-suc, pow-succ', mod-one, div-one, div-div-eq-div-mul, add-zero, zero-add, suc-add}
 use native.Mathlib.Omega.{arith}
 use lib.Arith.{digits-lt, digits-div, digits-mod}
 use lib.ListN.{length, getD, set, take, drop, length-set, List·getD-eq-default}
@@ -56,6 +56,24 @@ unfolding readLe
 read-lt s at zero b = zero-lt-suc 0
 read-lt s at (suc n) b =
     lt-of-lt-of-le (digits-lt (read-lt s (at + 1) n b) (b at)) (le-of-eq (sym (pow-suc 256 n)))
+
+-- byte i, where d bytes follow it
+pub readLe-byte : (s : List ℕ) → AreBytes s → (at i d : ℕ) → readLe s at (i + suc d) / 256 ^ i % 256 ≡ getD s (at + i) 0
+unfolding readLe
+readLe-byte s b at zero d =
+    ap (λ (n : ℕ). readLe s at n / 1 % 256) (zero-add (suc d))
+    ∙ ap (λ (v : ℕ). v % 256) (div-one (readLe s at (suc d)))
+    ∙ digits-mod (readLe s (at + 1) d) (b at)
+    ∙ sym (ap (λ (p : ℕ). getD s p 0) (add-zero at))
+readLe-byte s b at (suc i) d =
+    let later = readLe s (at + 1) (i + suc d) in
+    let next : at + 1 + i ≡ at + suc i = omega arith in
+    ap (λ (n : ℕ). readLe s at n / 256 ^ suc i % 256) (suc-add i (suc d))
+    ∙ ap (λ (v : ℕ). (later * 256 + getD s at 0) / v % 256) (pow-succ' 256 i)
+    ∙ ap (λ (v : ℕ). v % 256) (sym (div-div-eq-div-mul (later * 256 + getD s at 0) 256 (256 ^ i)))
+    ∙ ap (λ (v : ℕ). v / 256 ^ i % 256) (digits-div later (b at))
+    ∙ readLe-byte s b (at + 1) i d
+    ∙ ap (λ (p : ℕ). getD s p 0) next
 
 -- ---- what is read, and what a write changes
 

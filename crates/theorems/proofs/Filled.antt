@@ -1,10 +1,10 @@
 -- What the fill makes of a file: ones bits in the bytes that the policies name, and every other byte as it was (`ones-fill`, `mask-fill`,
--- `tail-fill`); outside vd's group none (`filled-outside`); and bytes stay bytes (`filled-bytes`).
+-- `tail-fill`). What ones bits in vd's group keep it keeps (`filled-keeps`): bytes outside the group, and that all are bytes.
 -- Assumes nothing.
 use mathlib.Core.Bool.{Bool, true, false, true≢false, cond, not}
 use mathlib.Core.List.{List}
 use mathlib.Core.Path.{_≡_, refl, sym, ap, subst, _∙_}
-use Prim.Native.Nat.{ℕ, zero, suc, _+_, _-_, _*_, _/_, _<_, _≤_}
+use Prim.Native.Nat.{ℕ, _+_, _-_, _*_, _/_, _<_, _≤_}
 use native.Mathlib.Omega.{arith}
 use lib.Dec.{leb}
 use lib.ListN.{length, getD, length-set}
@@ -16,6 +16,7 @@ use Rattle.vector_registers.specs.Settings.{registerBytes}
 use Rattle.vector_word.specs.declared.Fields.{Fields}
 use Rattle.vector_element.specs.Element.{elementAt, active}
 use Rattle.vector_element.specs.Steps.{steps}
+use Rattle.vector_element.proofs.Steps.{steps-keep}
 use Rattle.vector_fill.specs.Fill.{onesAt, onesBetween, maskStep, maskFilled, groupEnd, tailFilled, filled}
 use Rattle.theorems.specs.Execution.{Within, InVdGroup, Done}
 use Rattle.theorems.proofs.Fold.{Except, Does, fold-done}
@@ -27,15 +28,17 @@ pub record Fills (g out : List ℕ) (In : ℕ → Type 0) : Type 0 where
   pub others : (p : ℕ) → (In p → ⊥) → getD out p 0 ≡ getD g p 0
   pub same-length : length out ≡ length g
 
--- nothing is filled
-none-fill : (g : List ℕ) (In : ℕ → Type 0) → ((p : ℕ) → In p → ⊥) → Fills g g In
-none-fill g In none = record { ones = λ p h. absurd (none p h); others = λ p h. refl; same-length = refl }
+-- what is filled only if a policy is on
+if-fill : (b : Bool) (g out : List ℕ) (In : ℕ → Type 0) → Fills g out In → Fills g (cond b out g) (λ p. (b ≡ true) × In p)
+if-fill true g out In all =
+    record { ones = λ p h. all .ones p (h .1); others = λ p h. all .others p (λ w. h (refl, w)); same-length = all .same-length }
+if-fill false g out In all = record { ones = λ p h. absurd (true≢false (sym (h .0))); others = λ p h. refl; same-length = refl }
 
 -- a range of bytes of the file
 pub ones-fill : (from to : ℕ) (g : List ℕ) → to ≤ length g → Fills g (onesBetween from to g) (λ p. (from ≤ p) × (p < to))
 unfolding onesBetween
 ones-fill from to g room = record {
-  ones = λ p h. filled-bytes-are p (h .0) (h .1);
+  ones = λ p h. all .results p (h .0) (h .1) refl;
   others = λ p h. all .others p (λ i lo hi a w. h (omega arith, omega arith));
   same-length = all .same-length;
 }
@@ -52,9 +55,6 @@ ones-fill from to g room = record {
     all =
         fold-done g (λ i. i) 1 from to onesAt (λ i. true) (λ i l. getD l i 0) (λ i. 255) (λ i j h. omega arith)
         (λ l m i e. e i (omega arith, omega arith)) step
-
-    filled-bytes-are : (p : ℕ) → from ≤ p → p < to → getD (steps onesAt (to - from) from g) p 0 ≡ 255
-    filled-bytes-are p lo hi = all .results p lo hi refl
 
 -- ---- the mask
 
@@ -102,9 +102,13 @@ module _
         fold-done g place (s .sew / 8) (s .vstart) (s .vl) (maskStep f s) (λ i. not (active f file i)) (λ i l. getD l (place i + j) 0) (λ i. 255)
         (element-apart s (f .vd)) (λ l m i e. e (place i + j) (omega arith, omega arith)) (step j small)
 
-    pub mask-fill : Fills g (maskFilled f s g) (λ p. (s .vma ≡ true) × (i : ℕ) × MaskedOff f s file i p)
+    pub mask-fill : Fills g (maskFilled f s g) (λ p. (s .vma ≡ true) × ((i : ℕ) × MaskedOff f s file i p))
     unfolding maskFilled
-    mask-fill = go (s .vma)
+    mask-fill = if-fill (s .vma) g out (λ p. (i : ℕ) × MaskedOff f s file i p) (record {
+      ones = λ p h. ones p (h .0) (h .1);
+      others = λ p h. all 0 some .others p (λ i lo hi a w. h (i, (lo, hi, off-is (active f file i) a, w)));
+      same-length = all 0 some .same-length;
+    })
       where
         out : List ℕ
         out = steps (maskStep f s) (s .vl - s .vstart) (s .vstart) g
@@ -118,14 +122,6 @@ module _
         off-is true e = sym e
         off-is false e = refl
 
-        go : (b : Bool) → Fills g (cond b out g) (λ p. (b ≡ true) × (i : ℕ) × MaskedOff f s file i p)
-        go true = record {
-          ones = λ p h. ones p (h .1) (h .2);
-          others = λ p h. all 0 some .others p (λ i lo hi a w. h (refl, i, (lo, hi, off-is (active f file i) a, w)));
-          same-length = all 0 some .same-length;
-        }
-        go false = none-fill g (λ p. (false ≡ true) × (i : ℕ) × MaskedOff f s file i p) (λ p h. true≢false (sym (h .0)))
-
 -- ---- the tail
 
 -- byte p is one of vd's group, from element vl on
@@ -134,66 +130,43 @@ InTail f s p = (elementAt (s .vlen) (s .sew) (f .vd) (s .vl) ≤ p) × (p < grou
 
 pub tail-fill : (f : Fields) (s : Settings) (g : List ℕ) → groupEnd (s .vlen) (s .lmul) (f .vd) ≤ length g → Fills g (tailFilled f s g) (λ p. (s .vta ≡ true) × InTail f s p)
 unfolding tailFilled
-tail-fill f s g room = go (s .vta)
-  where
-    out : List ℕ
-    out = onesBetween (elementAt (s .vlen) (s .sew) (f .vd) (s .vl)) (groupEnd (s .vlen) (s .lmul) (f .vd)) g
+tail-fill f s g room =
+    if-fill (s .vta) g _ (InTail f s) (ones-fill (elementAt (s .vlen) (s .sew) (f .vd) (s .vl)) (groupEnd (s .vlen) (s .lmul) (f .vd)) g room)
 
-    all : Fills g out (InTail f s)
-    all = ones-fill (elementAt (s .vlen) (s .sew) (f .vd) (s .vl)) (groupEnd (s .vlen) (s .lmul) (f .vd)) g room
+-- ---- what ones bits in a byte of vd's group keep, the fill keeps
 
-    go : (b : Bool) → Fills g (cond b out g) (λ p. (b ≡ true) × InTail f s p)
-    go true = record { ones = λ p h. all .ones p (h .1); others = λ p h. all .others p (λ w. h (refl, w)); same-length = all .same-length }
-    go false = none-fill g (λ p. (false ≡ true) × InTail f s p) (λ p h. true≢false (sym (h .0)))
+module _ (P : List ℕ → Type 0) where
+  pick-keeps : (b : Bool) (g h : List ℕ) → P g → P h → P (cond b g h)
+  pick-keeps true g h p q = p
+  pick-keeps false g h p q = q
 
--- ---- outside vd's group nothing is filled
+  module _ {fileLength : ℕ} (f : Fields) (s : Settings) (ready : Ready fileLength s) (keep : (q : ℕ) (h : List ℕ) → InVdGroup f s q → P h → P (onesAt q h)) where
+    ones-keep : (from to : ℕ) (g : List ℕ) → ((q : ℕ) → from ≤ q → q < to → InVdGroup f s q) → P g → P (onesBetween from to g)
+    unfolding onesBetween
+    ones-keep from to g inside = steps-keep onesAt P (to - from) from g (λ q h lo hi. keep q h (inside q lo (omega arith)))
 
-steps-leave : (S : ℕ → List ℕ → List ℕ) (p n i : ℕ) (g : List ℕ) → ((j : ℕ) (h : List ℕ) → i ≤ j → j < i + n → getD (S j h) p 0 ≡ getD h p 0)
-    → getD (steps S n i g) p 0 ≡ getD g p 0
-unfolding steps
-steps-leave S p zero i g leave = refl
-steps-leave S p (suc n) i g leave =
-    steps-leave S p n (i + 1) (S i g) (λ j h lo hi. leave j h (omega arith) (omega arith)) ∙ leave i g (omega arith) (omega arith)
+    mask-keeps : (g : List ℕ) → P g → P (maskFilled f s g)
+    unfolding maskStep maskFilled
+    mask-keeps g h =
+        pick-keeps (s .vma) _ g
+        (steps-keep (maskStep f s) P (s .vl - s .vstart) (s .vstart) g
+        (λ i l lo hi k. pick-keeps (active f l i) l _ k
+        (ones-keep _ _ l (λ q low high. (omega arith, omega (arith, high, element-fits s ready i (omega (arith, lo, hi))))) k)) h) h
 
-ones-leave : (from to : ℕ) (g : List ℕ) (p : ℕ) → ((from ≤ p) × (p < to) → ⊥) → getD (onesBetween from to g) p 0 ≡ getD g p 0
-unfolding onesBetween
-ones-leave from to g p out =
-    steps-leave onesAt p (to - from) from g (λ j h lo hi. getD-set-other h j p 255 0 (λ e. out (omega arith, omega arith)))
+    pub filled-keeps : (g : List ℕ) → P g → P (filled f s g)
+    unfolding tailFilled filled
+    filled-keeps g h =
+        let m = mask-keeps g h in
+        pick-keeps (leb (s .vl) (s .vstart)) g _ h
+        (pick-keeps (s .vta) _ (maskFilled f s g) (ones-keep _ _ (maskFilled f s g) (λ q low high. (omega arith, omega (arith, high))) m) m)
 
-pick-leaves : (b : Bool) (g h file : List ℕ) (p : ℕ) → getD g p 0 ≡ getD file p 0 → getD h p 0 ≡ getD file p 0 → getD (cond b g h) p 0 ≡ getD file p 0
-pick-leaves true g h file p e q = e
-pick-leaves false g h file p e q = q
-
+-- bytes outside the group
 pub filled-outside : {fileLength : ℕ} (f : Fields) (s : Settings) → Ready fileLength s → (g : List ℕ) (p : ℕ) → (InVdGroup f s p → ⊥)
     → getD (filled f s g) p 0 ≡ getD g p 0
-unfolding maskStep maskFilled tailFilled filled
 filled-outside f s ready g p out =
-    let mask = pick-leaves (s .vma) (steps (maskStep f s) (s .vl - s .vstart) (s .vstart) g) g g p
-    (steps-leave (maskStep f s) p (s .vl - s .vstart) (s .vstart) g (λ i h lo hi.
-    pick-leaves (active f h i) h _ h p refl
-    (ones-leave _ _ h p (λ w. out (omega arith, omega (arith, w, element-fits s ready i (omega (arith, lo, hi)))))))) refl in
-    pick-leaves (leb (s .vl) (s .vstart)) g (tailFilled f s (maskFilled f s g)) g p refl
-    (pick-leaves (s .vta) _ (maskFilled f s g) g p (ones-leave _ _ (maskFilled f s g) p (λ w. out (omega arith, omega (arith, w))) ∙ mask) mask)
+    filled-keeps (λ h. getD h p 0 ≡ getD g p 0) f s ready
+    (λ q h w e. getD-set-other h q p 255 0 (λ same. out (subst (InVdGroup f s) (sym same) w)) ∙ e) g refl
 
--- ---- bytes stay bytes
-
-steps-bytes : (S : ℕ → List ℕ → List ℕ) → ((i : ℕ) (g : List ℕ) → AreBytes g → AreBytes (S i g))
-    → (n i : ℕ) (g : List ℕ) → AreBytes g → AreBytes (steps S n i g)
-unfolding steps
-steps-bytes S keep zero i g h = h
-steps-bytes S keep (suc n) i g h = steps-bytes S keep n (i + 1) (S i g) (keep i g h)
-
-pick-bytes : (b : Bool) (g h : List ℕ) → AreBytes g → AreBytes h → AreBytes (cond b g h)
-pick-bytes true g h p q = p
-pick-bytes false g h p q = q
-
-ones-bytes : (from to : ℕ) (g : List ℕ) → AreBytes g → AreBytes (onesBetween from to g)
-unfolding onesBetween
-ones-bytes from to g = steps-bytes onesAt (λ i h. set-bytes h i 255 (omega arith)) (to - from) from g
-
-pub filled-bytes : (f : Fields) (s : Settings) (g : List ℕ) → AreBytes g → AreBytes (filled f s g)
-unfolding maskStep maskFilled tailFilled filled
-filled-bytes f s g h =
-    let mask = pick-bytes (s .vma) (steps (maskStep f s) (s .vl - s .vstart) (s .vstart) g) g
-    (steps-bytes (maskStep f s) (λ i l b. pick-bytes (active f l i) l _ b (ones-bytes _ _ l b)) (s .vl - s .vstart) (s .vstart) g h) h in
-    pick-bytes (leb (s .vl) (s .vstart)) g (tailFilled f s (maskFilled f s g)) h (pick-bytes (s .vta) _ (maskFilled f s g) (ones-bytes _ _ (maskFilled f s g) mask) mask)
+-- that all are bytes
+pub filled-bytes : {fileLength : ℕ} (f : Fields) (s : Settings) → Ready fileLength s → (g : List ℕ) → AreBytes g → AreBytes (filled f s g)
+filled-bytes f s ready = filled-keeps AreBytes f s ready (λ q h w. set-bytes h q 255 (omega arith))

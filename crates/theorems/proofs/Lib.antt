@@ -11,6 +11,7 @@ pub mod Places
 pub mod Policies
 pub mod Pseudocode
 pub mod Registers
+pub mod ResultBytes
 pub mod Reversal
 pub mod Rows
 pub mod Witnesses

@@ -4,7 +4,7 @@
 use mathlib.Core.Bool.{Bool, true, false, true≢false, cond, not, _&&_}
 use mathlib.Core.List.{List}
 use mathlib.Core.Path.{_≡_, refl, sym, ap, subst, _∙_}
-use Prim.Native.Nat.{ℕ, zero, suc, _+_, _-_, _*_, _/_, _<_, _≤_}
+use Prim.Native.Nat.{ℕ, _+_, _-_, _*_, _/_, _<_, _≤_}
 use native.Mathlib.Decide.{decLe}
 use native.Mathlib.Nat.{mul-le-mul-right, suc-mul, add-mul, lt-of-not-le}
 use native.Mathlib.Omega.{arith}
@@ -27,6 +27,7 @@ use Rattle.vector_word.proofs.Tests.{past, held, passed-by}
 use Rattle.vector_refusal.specs.Refusal.{applies7, applies8, refusalOfWord, refusalOf}
 use Rattle.vector_element.specs.Element.{blockPlace}
 use Rattle.vector_element.specs.Steps.{steps}
+use Rattle.vector_element.proofs.Steps.{steps-keep}
 use Rattle.vector_ghash.specs.declared.GhashMultiplier.{GhashMultiplier}
 use Rattle.vector_ghash.specs.declared.GhashMultiplier.the-variants.{YXorX, YAlone}
 use Rattle.vector_ghash.specs.GhashWords.{vsStep, ghashVs}
@@ -149,26 +150,23 @@ module _ {fileLength : ℕ} {k : Kind} {f : Fields} {s : Settings} (a : Admitted
       let fits = group-fits s (settings a) is32 i h in
       outside p (omega arith, omega arith) key
 
-  kept : (m : GhashMultiplier) (h n i : ℕ) (g : List ℕ) → s .vstart / 4 ≤ i → i + n ≤ s .vstart / 4 + (s .vl / 4 - s .vstart / 4)
-      → keyIn f s (steps (vsStep h m f s) n i g) ≡ keyIn f s g
-  unfolding steps vsStep
-  kept m h zero i g low high = refl
-  kept m h (suc n) i g low high =
-      kept m h n (i + 1) (vsStep h m f s i g) (omega arith) (omega arith)
-      ∙ beAt-same (vsStep h m f s i g) g (blockPlace (s .vlen) (f .vs2) 0) 16
-      (λ p key. putBlock-other g (blockPlace (s .vlen) (f .vd) i) _ p (λ w. misses i (omega arith) p w key))
-
-  steps-keep : (m : GhashMultiplier) (file : List ℕ) (n : ℕ) → n ≤ s .vl / 4 - s .vstart / 4
+  steps-keep-key : (m : GhashMultiplier) (file : List ℕ) (n : ℕ) → n ≤ s .vl / 4 - s .vstart / 4
       → keyIn f s (steps (vsStep (keyIn f s file) m f s) n (s .vstart / 4) file) ≡ keyIn f s file
-  steps-keep m file n h = kept m (keyIn f s file) n (s .vstart / 4) file (omega arith) (omega arith)
+  unfolding vsStep
+  steps-keep-key m file n h =
+      steps-keep (vsStep (keyIn f s file) m f s) (λ g. keyIn f s g ≡ keyIn f s file) n (s .vstart / 4) file
+      (λ i g low high e.
+      beAt-same (vsStep (keyIn f s file) m f s i g) g (blockPlace (s .vlen) (f .vs2) 0) 16
+      (λ p key. putBlock-other g (blockPlace (s .vlen) (f .vd) i) _ p (λ w. misses i (omega arith) p w key))
+      ∙ e) refl
 
 word-keeps : (k : Kind) (f : Fields) (s : Settings) (scalar : ℕ) (file : List ℕ) → isVs k ≡ true → Admitted (length file) k f s
     → keyIn f s (doneKnown k f s scalar file) ≡ keyIn f s file
 unfolding ghashVs
 word-keeps k f s scalar file vs =
     each-vs (λ (k : Kind). Admitted (length file) k f s → keyIn f s (doneKnown k f s scalar file) ≡ keyIn f s file)
-    (λ a. steps-keep a refl YXorX file (s .vl / 4 - s .vstart / 4) (omega arith))
-    (λ a. steps-keep a refl YAlone file (s .vl / 4 - s .vstart / 4) (omega arith)) k vs
+    (λ a. steps-keep-key a refl YXorX file (s .vl / 4 - s .vstart / 4) (omega arith))
+    (λ a. steps-keep-key a refl YAlone file (s .vl / 4 - s .vstart / 4) (omega arith)) k vs
 
 pub writes-miss-key : WritesMissKey
 writes-miss-key fileLength word s number k f known vs = outside (admitted-as fileLength word s known number) vs
@@ -178,7 +176,7 @@ key-stays word s scalar file number k f known vs =
     let a = admitted-as (length file) word s known number in
     let g = doneKnown k f s scalar file in
     record {
-      between = λ m n h. steps-keep a vs m file n (omega (arith, h));
+      between = λ m n h. steps-keep-key a vs m file n (omega (arith, h));
       after =
           ap (keyIn f s) (sym (performed word s scalar file number .1) ∙ ap (λ (w : Word). done w s scalar file) known)
           ∙ beAt-same (filled f s g) g (blockPlace (s .vlen) (f .vs2) 0) 16

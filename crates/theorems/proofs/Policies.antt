@@ -225,22 +225,24 @@ module _ (word : ℕ) (s : Settings) {fileLength : ℕ} {k : Kind} {f : Fields} 
       go false lo hi = omega arith
 
   module _ (file : List ℕ) (i p : ℕ) where
+    -- byte p is one of unit i, which is not active, in a GHASH word or not
+    abbrev Off : Bool → Type 0
+    Off b =
+        (cond b (s .vstart / 4) (s .vstart) ≤ i) × (i < cond b (s .vl / 4) (s .vl)) × ((b || active f file i) ≡ false)
+        × Within (cond b (blockPlace (s .vlen) (f .vd) i) (elementAt (s .vlen) (s .sew) (f .vd) i)) (cond b 16 (s .sew / 8)) p
+
     -- the elements that the mask policy fills are the units that are not active: a GHASH word has vm 1
     is-unit : MaskedOff f s file i p → InUnit k f s file false i p
     is-unit = go (isGhash k) (ghash-unmasked word known)
       where
-        go : (b : Bool) → (b ≡ true → f .vm ≡ 1) → MaskedOff f s file i p
-            → (cond b (s .vstart / 4) (s .vstart) ≤ i) × (i < cond b (s .vl / 4) (s .vl)) × ((b || active f file i) ≡ false)
-            × Within (cond b (blockPlace (s .vlen) (f .vd) i) (elementAt (s .vlen) (s .sew) (f .vd) i)) (cond b 16 (s .sew / 8)) p
+        go : (b : Bool) → (b ≡ true → f .vm ≡ 1) → MaskedOff f s file i p → Off b
         go true one h = absurd (true≢false (sym (eq-eqb (f .vm) 1 (one refl)) ∙ or-false (eqb (f .vm) 1) (eqb (maskBit file i) 1) (h .2) .0))
         go false one h = h
 
     is-masked : InUnit k f s file false i p → MaskedOff f s file i p
     is-masked = go (isGhash k)
       where
-        go : (b : Bool) → (cond b (s .vstart / 4) (s .vstart) ≤ i) × (i < cond b (s .vl / 4) (s .vl)) × ((b || active f file i) ≡ false)
-            × Within (cond b (blockPlace (s .vlen) (f .vd) i) (elementAt (s .vlen) (s .sew) (f .vd) i)) (cond b 16 (s .sew / 8)) p
-            → MaskedOff f s file i p
+        go : (b : Bool) → Off b → MaskedOff f s file i p
         go true h = absurd (true≢false (h .2))
         go false h = h
 
@@ -284,7 +286,7 @@ module _
     unit-kept : (p : ℕ) → ((i : ℕ) → InUnit k f s file true i p → ⊥) → getD g p 0 ≡ getD file p 0
     unit-kept p h = units .others p (λ i lo hi on w. h i (lo, hi, on, w))
 
-    masked-out : Fills g (maskFilled f s g) (λ p. (s .vma ≡ true) × (i : ℕ) × MaskedOff f s file i p)
+    masked-out : Fills g (maskFilled f s g) (λ p. (s .vma ≡ true) × ((i : ℕ) × MaskedOff f s file i p))
     masked-out =
         mask-fill f s (settings a) vd-small (vd-of a) (element-bytes word s known a)
         (unmasked (f .vm) (f .vd) _ (le-of-suc-le-suc (decoded-fit word known .vm)) (a .not8)) file g (units .same-length)
@@ -295,13 +297,16 @@ module _
         tail-fill f s (maskFilled f s g)
         (omega (arith, masked-out .same-length, units .same-length, settings a .in-file (f .vd) vd-small (vd-of a)))
 
+    only : (p : ℕ) (r : Rule) → Gives k f s file p r → r ≡ rules p .0
+    only p r h = one-rule k f s file units-row p r (rules p .0) h (rules p .1)
+
     every : (b : Bool) → leb (s .vl) (s .vstart) ≡ b → EveryByte k f s scalar file (cond b g (tailFilled f s (maskFilled f s g)))
     every true e =
         let past = leb-true (s .vl) (s .vstart) e in
         record {
           rule = λ p. rules p .0;
           gives = λ p. rules p .1;
-          only = λ p r h. one-rule k f s file units-row p r (rules p .0) h (rules p .1);
+          only = only;
           results = units .results;
           tails = λ p h. absurd (omega (arith, past, h .1));
           masks = λ p i h. absurd (omega (arith, past, started word s known a i (h .1 .0) (h .1 .1)));
@@ -316,21 +321,20 @@ module _
         record {
           rule = λ p. rules p .0;
           gives = λ p. rules p .1;
-          only = λ p r h. one-rule k f s file units-row p r (rules p .0) h (rules p .1);
+          only = only;
           results = λ i lo hi on.
               unit-same k f s i (tailFilled f s (maskFilled f s g)) g (λ p w.
               tail-out .others p (no-tail p i true (lo, hi, on, w))
               ∙ masked-out .others p (λ m.
-              not-both k f s file units-row i (m .1) p
-              (lo, hi, on, w) (is-unit word s known a file (m .1) p (m .2))))
+              not-both k f s file units-row i (m .1 .0) p (lo, hi, on, w) (is-unit word s known a file (m .1 .0) p (m .1 .1))))
               ∙ units .results i lo hi on;
           tails = λ p h. tail-out .ones p (h .0, (h .2, h .3));
           masks = λ p i h.
               tail-out .others p (no-tail p i false (h .1))
-              ∙ masked-out .ones p (h .0, i, is-masked word s known a file i p (h .1));
+              ∙ masked-out .ones p (h .0, (i, is-masked word s known a file i p (h .1)));
           others = λ p h.
               tail-out .others p (λ t. h .1 (t .0, omega (arith, before), t .1 .0, t .1 .1))
-              ∙ masked-out .others p (λ m. h .2 (m .1) (m .0, is-unit word s known a file (m .1) p (m .2)))
+              ∙ masked-out .others p (λ m. h .2 (m .1 .0) (m .0, is-unit word s known a file (m .1 .0) p (m .1 .1)))
               ∙ unit-kept p (h .0);
           same-length = tail-out .same-length ∙ masked-out .same-length ∙ units .same-length;
         }

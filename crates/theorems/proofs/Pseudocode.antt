@@ -314,8 +314,8 @@ module _ (word : ℕ) (s : Settings) (scalar : ℕ) (file : List ℕ) (bytes : A
   the-word : executed word s scalar file ≡ filled f s (doneKnown k f s scalar file)
   the-word = sym (performed word s scalar file number .1) ∙ ap (λ (w : Word). done w s scalar file) known
 
-  out-bytes : AreBytes (executed word s scalar file)
-  out-bytes = subst AreBytes (sym the-word) (filled-bytes f s (doneKnown k f s scalar file) (units .1 .bytes))
+  pub out-bytes : AreBytes (executed word s scalar file)
+  out-bytes = subst AreBytes (sym the-word) (filled-bytes f s (settings (admitted-as (length file) word s known number)) (doneKnown k f s scalar file) (units .1 .bytes))
 
   -- what an element or element group holds
   element-is : (i : ℕ) → unitOf k f s i (executed word s scalar file) ≡ resultOf k f s scalar file i

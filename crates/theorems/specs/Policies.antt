@@ -1,9 +1,9 @@
 -- Every byte of the file after a word that is done, with the policies of document 02's Ask 5 (`EveryByte`): exactly one rule gives it, and
--- the theorem names which. What is not active is exactly what document 02 says (`InactiveIs`). No byte outside vd's group changes
+-- the theorem names which; where it is a result's, the byte is told too (`ResultBytes`). What is not active is exactly what document 02 says (`InactiveIs`). No byte outside vd's group changes
 -- (`OnlyVdGroup`), and no refusal number looks at the policies (`NumbersIgnorePolicies`).
 -- Assumes nothing.
-use Prim.Native.Nat.{ℕ, _+_, _*_, _<_, _≤_}
-use mathlib.Core.Bool.{Bool, true, false}
+use Prim.Native.Nat.{ℕ, _+_, _-_, _*_, _/_, _%_, _^_, _<_, _≤_}
+use mathlib.Core.Bool.{Bool, true, false, cond}
 use mathlib.Core.List.{List}
 use mathlib.Core.Path.{_≡_}
 use lib.ListN.{length, getD}
@@ -72,6 +72,17 @@ abbrev pub BytesOfWords : Type 0
 BytesOfWords =
     (word : ℕ) (s : Settings) (scalar : ℕ) (file : List ℕ) → AreBytes file → refusalOf (length file) word s ≡ 0
     → (k : Kind) (f : Fields) → decode word ≡ Known k f → EveryByte k f s scalar file (executed word s scalar file)
+
+-- byte j of a unit that holds a number: in a group the highest byte stands first, in an element the lowest
+abbrev pub byteOf : Kind → ℕ → ℕ → ℕ
+byteOf k v j = cond (isGhash k) (v / 256 ^ (15 - j) % 256) (v / 256 ^ j % 256)
+
+-- so a byte that a result gives is the result's byte at its place in the unit
+abbrev pub ResultBytes : Type 0
+ResultBytes =
+    (word : ℕ) (s : Settings) (scalar : ℕ) (file : List ℕ) → AreBytes file → refusalOf (length file) word s ≡ 0
+    → (k : Kind) (f : Fields) → decode word ≡ Known k f → (p i : ℕ) → InUnit k f s file true i p
+    → getD (executed word s scalar file) p 0 ≡ byteOf k (resultOf k f s scalar file i) (p - unitPlace k f s i)
 
 -- a unit is not active exactly when it is an element, vm is 0 and its mask bit is 0
 abbrev pub InactiveIs : Type 0

@@ -1,8 +1,9 @@
--- A word's steps as a loop sees them: what is left from i on (`turn`, `none-left`).
+-- A word's steps as a loop sees them: what is left from i on (`turn`, `none-left`). And what each step keeps, all of them keep
+-- (`steps-keep`).
 -- Assumes nothing.
 use mathlib.Core.Path.{_≡_, sym, ap, _∙_}
 use mathlib.Core.List.{List}
-use Prim.Native.Nat.{ℕ, suc, _+_, _-_, _<_, _≤_}
+use Prim.Native.Nat.{ℕ, zero, suc, _+_, _-_, _<_, _≤_}
 use native.Mathlib.Omega.{arith}
 use Rattle.vector_element.specs.Steps.{steps}
 
@@ -21,3 +22,9 @@ module _ (S : ℕ → List ℕ → List ℕ) where
   none-left to i file h left =
       let e : to - i ≡ 0 = omega arith in
       sym (ap (λ (n : ℕ). steps S n i file) e) ∙ left
+
+  pub steps-keep : (P : List ℕ → Type 0) (n i : ℕ) (file : List ℕ) → ((j : ℕ) (g : List ℕ) → i ≤ j → j < i + n → P g → P (S j g)) → P file → P (steps S n i file)
+  unfolding steps
+  steps-keep P zero i file keep h = h
+  steps-keep P (suc n) i file keep h =
+      steps-keep P n (i + 1) (S i file) (λ j g lo hi. keep j g (omega arith) (omega arith)) (keep i file (omega arith) (omega arith) h)
