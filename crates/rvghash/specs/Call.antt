@@ -5,7 +5,7 @@ use mathlib.Core.Bool.{Bool}
 use mathlib.Core.List.{List}
 use lib.ListN.{length}
 use Rattle.trace_record.specs.declared.Record.{Record}
-use Rattle.trace_record.specs.Record.{policyOf}
+use Rattle.trace_policy.specs.Policy.{policyOf}
 use Rattle.vector_listing.specs.declared.Listed.{Listed}
 use Rattle.vector_listing.specs.Listing.{listed}
 use Rattle.vector_registers.specs.declared.settings.Settings.{Settings}

@@ -15,4 +15,3 @@ pub mod ResultBytes
 pub mod Reversal
 pub mod Rows
 pub mod Witnesses
-pub mod WithoutPolicies

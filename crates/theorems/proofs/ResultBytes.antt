@@ -20,7 +20,7 @@ use Rattle.vector_clmul.specs.Carryless.{element}
 use Rattle.vector_ghash.specs.GhashWords.{group}
 use Rattle.vector_execute.specs.Execute.{executed}
 use Rattle.theorems.specs.Execution.{unitBytes, unitPlace, unitOf, Within}
-use Rattle.theorems.specs.Policies.{byteOf, ResultBytes}
+use Rattle.theorems.specs.Policies.{byteIn, byteOf, ResultBytes}
 use Rattle.theorems.proofs.Policies.{bytes-of-words}
 use Rattle.theorems.proofs.Pseudocode.{out-bytes}
 
@@ -46,9 +46,7 @@ unit-byte k f s i p g b = go (isGhash k)
   where
     go : (t : Bool) → Within (cond t (blockPlace (s .vlen) (f .vd) i) (elementAt (s .vlen) (s .sew) (f .vd) i)) (cond t 16 (s .sew / 8)) p
         → getD g p 0
-        ≡ cond t
-        (cond t (group s g (f .vd) i) (element s g (f .vd) i) / 256 ^ (15 - (p - cond t (blockPlace (s .vlen) (f .vd) i) (elementAt (s .vlen) (s .sew) (f .vd) i))) % 256)
-        (cond t (group s g (f .vd) i) (element s g (f .vd) i) / 256 ^ (p - cond t (blockPlace (s .vlen) (f .vd) i) (elementAt (s .vlen) (s .sew) (f .vd) i)) % 256)
+        ≡ byteIn t (cond t (group s g (f .vd) i) (element s g (f .vd) i)) (p - cond t (blockPlace (s .vlen) (f .vd) i) (elementAt (s .vlen) (s .sew) (f .vd) i))
     go true = be-byte g b (blockPlace (s .vlen) (f .vd) i) p
     go false = le-byte g b (elementAt (s .vlen) (s .sew) (f .vd) i) (s .sew / 8) p
 

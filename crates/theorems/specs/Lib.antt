@@ -7,4 +7,3 @@ pub mod Policies
 pub mod Pseudocode
 pub mod Rows
 pub mod Witnesses
-pub mod WithoutPolicies

@@ -73,9 +73,13 @@ BytesOfWords =
     (word : ℕ) (s : Settings) (scalar : ℕ) (file : List ℕ) → AreBytes file → refusalOf (length file) word s ≡ 0
     → (k : Kind) (f : Fields) → decode word ≡ Known k f → EveryByte k f s scalar file (executed word s scalar file)
 
--- byte j of a unit that holds a number: in a group the highest byte stands first, in an element the lowest
+-- byte j of a number that stands in 16 bytes with the highest first, or with the lowest first
+abbrev pub byteIn : Bool → ℕ → ℕ → ℕ
+byteIn highestFirst v j = cond highestFirst (v / 256 ^ (15 - j) % 256) (v / 256 ^ j % 256)
+
+-- of a unit: a group has its highest byte first, and an element its lowest
 abbrev pub byteOf : Kind → ℕ → ℕ → ℕ
-byteOf k v j = cond (isGhash k) (v / 256 ^ (15 - j) % 256) (v / 256 ^ j % 256)
+byteOf k v j = byteIn (isGhash k) v j
 
 -- so a byte that a result gives is the result's byte at its place in the unit
 abbrev pub ResultBytes : Type 0

@@ -17,7 +17,8 @@ use Rattle.vector_element.specs.Steps.{steps}
 use Rattle.vector_clmul.specs.Carryless.{carrylessResult, carrylessStep, carryless}
 use Rattle.vector_fill.specs.Fill.{onesBetween, maskStep, maskFilled, tailFilled, filled}
 use Rattle.vector_execute.specs.Execute.{executed}
-use Rattle.trace_record.specs.Record.{recordAt, recordsFrom, recordBytes, policyOf, writeNumber, writtenInto}
+use Rattle.trace_record.specs.Record.{recordAt, recordsFrom, recordBytes, writeNumber, writtenInto}
+use Rattle.trace_policy.specs.Policy.{policyOf}
 use Rattle.trace_reader.specs.Reader.{nextAt, placeAfter}
 use Rattle.trace_form.specs.Form.{policiesFrom, wellFormed}
 use Rattle.trace_replay.specs.declared.Replayed.{Replayed}

@@ -9,7 +9,8 @@ use lib.ListN.{length, set, replicate, take}
 use Rattle.theorems.specs.Examples.{file}
 use Rattle.theorems.specs.Rows.{AllHold}
 use Rattle.trace_record.specs.declared.Record.{Record}
-use Rattle.trace_record.specs.Record.{recordBytes, policyOf, writeNumber, writtenInto}
+use Rattle.trace_record.specs.Record.{recordBytes, writeNumber, writtenInto}
+use Rattle.trace_policy.specs.Policy.{policyOf}
 use Rattle.trace_reader.specs.declared.Next.{Next}
 use Rattle.trace_reader.specs.declared.Next.the-variants.{Whole, End}
 use Rattle.trace_reader.specs.Reader.{nextAt, placeAfter}

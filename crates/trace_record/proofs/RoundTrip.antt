@@ -1,9 +1,8 @@
--- A record's bytes and its fields undo each other, field by field; so do the policy byte and the policies.
+-- A record's bytes and its fields undo each other, field by field.
 -- Assumes nothing.
-use Prim.Native.Nat.{ℕ, zero, suc, _+_, _≤_}
-use mathlib.Core.Bool.{Bool, true, false}
+use Prim.Native.Nat.{ℕ, _+_, _≤_}
 use mathlib.Core.List.{List, [], _++_}
-use mathlib.Core.Path.{_≡_, refl, sym, ap, ap₂, _∙_}
+use mathlib.Core.Path.{_≡_, sym, ap, ap₂, _∙_}
 use native.Mathlib.Nat.{add-zero}
 use native.Mathlib.Omega.{arith}
 use lib.ListN.{length, take, drop}
@@ -13,8 +12,8 @@ use Rattle.octets.specs.LittleEndian.{readLe, leBytes}
 use Rattle.octets.proofs.LittleEndian.{le-same, read-leBytes, leBytes-read}
 use Rattle.octets.proofs.Stores.{sets-at}
 use Rattle.trace_record.specs.declared.Record.{Record}
-use Rattle.trace_record.specs.Record.{recordAt, recordBytes, policyOf, vtaOf, vmaOf}
-use Rattle.trace_record.specs.RoundTrip.{WrittenIsRead, ReadIsWritten, PolicyByte}
+use Rattle.trace_record.specs.Record.{recordAt, recordBytes}
+use Rattle.trace_record.specs.RoundTrip.{WrittenIsRead, ReadIsWritten}
 use Rattle.trace_record.proofs.Bytes.{length-recordBytes}
 
 -- ---- written, then read
@@ -65,21 +64,3 @@ read-is-written s at b h =
     (before 4 8 (at + 12) (at + 16) s _ b (omega arith) (omega arith)
     (leBytes-read 8 s (at + 16) b (omega arith))))))))
     ∙ ap (λ (p : ℕ). take 24 (drop p s)) (add-zero at)
-
--- ---- the policy byte
-
-pub policy-byte : PolicyByte
-policy-byte = record { given = given; held = held }
-  where
-    given : (vta vma : Bool) → (policyOf vta vma ≤ 3) × (vtaOf (policyOf vta vma) ≡ vta) × (vmaOf (policyOf vta vma) ≡ vma)
-    given true true = (omega arith, refl, refl)
-    given true false = (omega arith, refl, refl)
-    given false true = (omega arith, refl, refl)
-    given false false = (omega arith, refl, refl)
-
-    held : (policy : ℕ) → policy ≤ 3 → policyOf (vtaOf policy) (vmaOf policy) ≡ policy
-    held zero h = refl
-    held (suc zero) h = refl
-    held (suc (suc zero)) h = refl
-    held (suc (suc (suc zero))) h = refl
-    held (suc (suc (suc (suc n)))) h = absurd (omega arith)

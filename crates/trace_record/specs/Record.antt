@@ -2,7 +2,7 @@
 -- scalar (8), numbers low byte first. Ask 5: "The zero byte of the trace record now holds the tail policy as 1 and the mask policy as 2,
 -- added; other values are 14."
 -- Assumes nothing.
-use Prim.Native.Nat.{ℕ, zero, suc, _+_, _/_, _%_}
+use Prim.Native.Nat.{ℕ, zero, suc, _+_, _/_}
 use mathlib.Core.Bool.{Bool, cond, not, _&&_, _||_}
 use mathlib.Core.List.{List, [], _∷_, _++_}
 use lib.Dec.{eqb, ltb}
@@ -22,16 +22,6 @@ recordAt trace at = record {
   vstart = readLe trace (at + 12) 4;
   scalar = readLe trace (at + 16) 8;
 }
-
--- the policy byte, and the policies that one up to 3 holds
-abbrev pub policyOf : Bool → Bool → ℕ
-policyOf vta vma = cond vta 1 0 + cond vma 2 0
-
-abbrev pub vtaOf : ℕ → Bool
-vtaOf policy = eqb (policy % 2) 1
-
-abbrev pub vmaOf : ℕ → Bool
-vmaOf policy = eqb (policy / 2 % 2) 1
 
 -- n records from `at` on, and the whole records of a trace
 unfoldable pub recordsFrom : ℕ → List ℕ → ℕ → List Record

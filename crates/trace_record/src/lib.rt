@@ -1,11 +1,10 @@
 // A record of a trace: one call of the executor, and its answer. Document 02, Asks 3 and 5.
-ghost use mathlib.Core.Bool.{cond};
 ghost use mathlib.Core.Path.{_≡_};
 ghost use Prim.Native.Nat.{_+_, _≤_};
 ghost use lib.ListN.{length};
 ghost use lib.Seq.{sets};
 ghost use Rattle.octets.specs.LittleEndian.{readLe};
-ghost use Rattle.trace_record.specs.Record.{recordAt, recordBytes, policyOf, tooLarge, writeNumber, writtenInto};
+ghost use Rattle.trace_record.specs.Record.{recordAt, recordBytes, tooLarge, writeNumber, writtenInto};
 use octets_le::read_le;
 use octets_le::write_le;
 use octets_slice::put;
@@ -23,25 +22,6 @@ pub struct Record {
     pub vl: u32,
     pub vstart: u32,
     pub scalar: u64,
-}
-
-// ---- policies
-
-// A number where a policy is on, else 0.
-fn number_if(on: bool, number: u32) -> u32
-    ensures { λ r. ⌜ r ≡ cond on number 0 ⌝ }
-{
-    if on {
-        return number;
-    }
-    0
-}
-
-// The policy byte.
-pub fn policy_of(vta: bool, vma: bool) -> u32
-    ensures { λ p. ⌜ p ≡ policyOf vta vma ⌝ }
-{
-    number_if(vta, 1) + number_if(vma, 2)
 }
 
 // ---- read

@@ -9,7 +9,8 @@ use Rattle.vector_registers.specs.declared.settings.Settings.{Settings}
 use Rattle.vector_refusal.specs.Refusal.{refusalOf}
 use Rattle.vector_execute.specs.Execute.{executed}
 use Rattle.trace_record.specs.declared.Record.{Record}
-use Rattle.trace_record.specs.Record.{records, vtaOf, vmaOf}
+use Rattle.trace_record.specs.Record.{records}
+use Rattle.trace_policy.specs.Policy.{vtaOf, vmaOf}
 use Rattle.trace_form.specs.Form.{wellFormed}
 use Rattle.trace_replay.specs.declared.Replayed.{Replayed}
 use Rattle.trace_replay.specs.declared.Replayed.the-variants.{Done, Differs, Refused}

@@ -17,7 +17,7 @@ use Rattle.vector_clmul.specs.Carryless.{carrylessResult, carrylessStep, carryl
 use Rattle.vector_ghash.specs.GhashWords.{vvStep, vsStep, ghashVv, ghashVs}
 use Rattle.vector_fill.specs.Fill.{maskFilled, tailFilled, filled}
 use Rattle.vector_execute.specs.Execute.{doneKnown, done, executed}
-use Rattle.theorems.specs.WithoutPolicies.{OldSettings, policiesOff, old1, oldRefusalOfWord, oldRefusalOf, oldCarryless, oldGhash, oldDone, oldExecuted, SameWithoutPolicies}
+use Rattle.without_policies.specs.Executor.{OldSettings, policiesOff, old1, oldRefusalOfWord, oldRefusalOf, oldCarryless, oldGhash, oldDone, oldExecuted, SameWithoutPolicies}
 
 module _ (s : OldSettings) where
   number : (fileLength : ℕ) (w : Word) → refusalOfDecoded fileLength w (policiesOff s) ≡ cond (old1 fileLength s) 1 (oldRefusalOfWord w s)

@@ -13,13 +13,14 @@ use Rattle.octets.proofs.Tests.{both}
 use Rattle.vector_registers.specs.declared.settings.Settings.{Settings}
 use Rattle.vector_refusal.specs.Refusal.{refusalOf}
 use Rattle.vector_execute.specs.Execute.{executed}
-use Rattle.theorems.specs.WithoutPolicies.{policiesOff}
-use Rattle.theorems.proofs.WithoutPolicies.{same-without-policies}
-use Rattle.trace_record.specs.Record.{vtaOf, vmaOf, recordAt, recordsFrom}
+use Rattle.without_policies.specs.Executor.{policiesOff}
+use Rattle.without_policies.proofs.Executor.{same-without-policies}
+use Rattle.trace_record.specs.Record.{recordAt, recordsFrom}
+use Rattle.trace_policy.specs.Policy.{vtaOf, vmaOf}
 use Rattle.trace_form.specs.Form.{policiesFrom, wellFormed}
 use Rattle.trace_replay.specs.declared.Replayed.the-variants.{Differs}
 use Rattle.trace_replay.specs.Replay.{settingsOf, agrees, called, Outcome, replayFrom, replayed}
-use Rattle.trace_examples.specs.OldTraces.{OldRecord, oldRecordAt, oldSettingsOf, oldAgrees, oldCalled, oldReplayFrom, oldZeros, OldTracesSame}
+use Rattle.without_policies.specs.Traces.{OldRecord, oldRecordAt, oldSettingsOf, oldAgrees, oldCalled, oldReplayFrom, oldZeros, OldTracesSame}
 
 -- ---- a record whose zero byte is zero
 

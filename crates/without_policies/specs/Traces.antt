@@ -1,5 +1,5 @@
 -- A trace as it stood before document 02's Ask 5, with a zero byte in each record: what reading and replay made of it, over the old executor
--- (`WithoutPolicies` of theorems). Replay does the same with it now (`OldTracesSame`).
+-- (`Executor`). Replay does the same with it now (`OldTracesSame`).
 -- Assumes nothing.
 use Prim.Native.Nat.{ℕ, zero, suc, _+_, _/_, _%_}
 use mathlib.Core.Bool.{Bool, true, cond, _&&_}
@@ -8,7 +8,7 @@ use mathlib.Core.Path.{_≡_}
 use lib.Dec.{eqb}
 use lib.ListN.{length}
 use Rattle.octets.specs.LittleEndian.{readLe}
-use Rattle.theorems.specs.WithoutPolicies.{OldSettings, oldRefusalOf, oldExecuted}
+use Rattle.without_policies.specs.Executor.{OldSettings, oldRefusalOf, oldExecuted}
 use Rattle.trace_replay.specs.declared.Replayed.the-variants.{Done, Differs, Refused}
 use Rattle.trace_replay.specs.Replay.{Outcome, replayed}
 

@@ -4,8 +4,8 @@ use Prim.Native.Nat.{ℕ, _≤_}
 use mathlib.Core.Bool.{Bool, true, false, cond}
 use native.Mathlib.Omega.{arith}
 use borrow.Author.Needs.{needs}
-use Rattle.trace_record.proofs.policy_of.Statement.{statement}
-use Rattle.trace_record.proofs.policy_of.Tie as tie
+use Rattle.trace_policy.proofs.policy_of.Statement.{statement}
+use Rattle.trace_policy.proofs.policy_of.Tie as tie
 
 number-if-requires : tie.Need-number-if-requires
 number-if-requires c κs = search needs
