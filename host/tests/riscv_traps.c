@@ -4,6 +4,9 @@
  *     riscv_traps FILE    each execution that this core's VLEN and CSRs allow traps with the whole machine state set: after it
  *                         every x, f and vector register and CSR must be as the oracle says. Then each execution, of any
  *                         VLEN, in a signal frame as Linux makes it.
+ *     riscv_traps --core FILE
+ *                         on a core that has Zvbc and Zvkg and makes agnostic elements ones: each execution that is done, of a
+ *                         word that it has, by the core itself; the whole state compared as above
  *     riscv_traps         a refused word under the signal's default action, which must end the process
  */
 #define _GNU_SOURCE
@@ -65,11 +68,18 @@ static void refused(int number, siginfo_t *info, void *context)
     *pc += (*(uint16_t *)*pc & 3) == 3 ? 4 : 2;
 }
 
-static void install(void)
+static void install_refused(void)
 {
     struct sigaction action = {.sa_sigaction = refused, .sa_flags = SA_SIGINFO};
-    if (sigaction(SIGILL, &action, NULL) != 0 || trap_install() != 0)
+    if (sigaction(SIGILL, &action, NULL) != 0)
         fail("no handler", "sigaction");
+}
+
+static void install(void)
+{
+    install_refused();
+    if (trap_install() != 0)
+        fail("no handler", "trap_install");
 }
 
 static int handles(void (*handler)(int, siginfo_t *, void *))
@@ -136,28 +146,42 @@ static int allowed(const struct call *c)
            n[VL] * n[SEW] <= n[LMUL] * n[VLEN] && vstart_of(c) < n[VLEN] && !(takes_scalar && is_kept(rs1_of(c)));
 }
 
-/* Executes the word in a state that is otherwise any, and compares all of it. */
-static void trap(uint32_t word, struct state *s, int is_done, const struct call *c, const char *where)
+/* Executes the word in a state, which gets what the core made of the CSRs; the state after it. */
+static const struct state *executed(uint32_t word, struct state *s, int is_done, const char *where)
 {
     static struct state after, unset;
     after = unset;
     put_word(word, (int)(any() & 1));
     unsigned long before = refusals;
     ((void (*)(struct state *, struct state *))(void *)room)(s, &after);
-    if ((refusals == before) != is_done || handles(trap_illegal) != is_done)
+    if ((refusals == before) != is_done)
         fail(is_done ? "a word is refused" : "a word is not refused", where);
+    return &after;
+}
+
+static void compare(const struct state *s, const struct state *after, const char *where)
+{
+    if (memcmp(s->file, after->file, file_bytes) != 0)
+        fail("the vector registers differ", where);
+    if (memcmp(s->x + 1, after->x + 1, sizeof s->x - 8) != 0 || memcmp(s->f, after->f, sizeof s->f) != 0)
+        fail("the x or f registers differ", where);
+    if (s->vstart != after->vstart)
+        fail("vstart differs", where);
+    if (s->fcsr != after->fcsr || s->vl != after->vl || s->vtype != after->vtype || s->vcsr != after->vcsr)
+        fail("fcsr, vl, vtype or vcsr differs", where);
+}
+
+/* A word that traps: what the handler leaves, of the state and of the signal's action. */
+static void trap(uint32_t word, struct state *s, int is_done, const struct call *c, const char *where)
+{
+    const struct state *after = executed(word, s, is_done, where);
+    if (handles(trap_illegal) != is_done)
+        fail("the signal's action is not as it must be", where);
     if (!is_done)
         install();
     if (c != NULL)
         expect(s, c);
-    if (memcmp(s->file, after.file, file_bytes) != 0)
-        fail("the vector registers differ", where);
-    if (memcmp(s->x + 1, after.x + 1, sizeof s->x - 8) != 0 || memcmp(s->f, after.f, sizeof s->f) != 0)
-        fail("the x or f registers differ", where);
-    if (s->vstart != after.vstart)
-        fail("vstart differs", where);
-    if (s->fcsr != after.fcsr || s->vl != after.vl || s->vtype != after.vtype || s->vcsr != after.vcsr)
-        fail("fcsr, vl, vtype or vcsr differs", where);
+    compare(s, after, where);
 }
 
 static struct state any_state(void)
@@ -174,21 +198,55 @@ static struct state any_state(void)
 
 static unsigned long live, live_refused, live_refused_in_course; /* with vstart not 0 */
 
+/* The case's state, otherwise any; 0 where this core cannot be brought to it. */
+static int state_of(const struct call *c, struct state *s)
+{
+    *s = any_state();
+    if (!allowed(c) || !vtype_of(c, &s->vtype))
+        return 0;
+    s->vl = c->scalar[VL];
+    s->vstart = vstart_of(c);
+    s->x[rs1_of(c)] = c->scalar[SCALAR];
+    memcpy(s->file, c->buffer[1].content, file_bytes);
+    return 1;
+}
+
 static void trap_case(const struct call *c, const char *where)
 {
-    struct state s = any_state();
-    if (!allowed(c) || !vtype_of(c, &s.vtype))
+    static struct state s;
+    if (!state_of(c, &s))
         return;
-    s.vl = c->scalar[VL];
-    s.vstart = vstart_of(c);
-    s.x[rs1_of(c)] = c->scalar[SCALAR];
-    memcpy(s.file, c->buffer[1].content, file_bytes);
     trap((uint32_t)c->scalar[WORD], &s, c->answer == RVGHASH_DONE, c, where);
     if (s.vl != c->scalar[VL])
         fail("the core takes another vl", where);
     live++;
     live_refused += c->answer != RVGHASH_DONE;
     live_refused_in_course += c->answer != RVGHASH_DONE && vstart_of(c) != 0;
+}
+
+/* Whether a core with Zvbc and Zvkg has the word: carry-less words at SEW 64, vghsh.vv and vgmul.vv. */
+static int core_has(const struct call *c)
+{
+    uint32_t word = (uint32_t)c->scalar[WORD], funct6 = word >> 26;
+    return (word & 0x7F) == 0x57 ? c->scalar[SEW] == 64 : funct6 == 0x2C || funct6 == 0x28;
+}
+
+static unsigned long by_core, with_tail, with_mask; /* a tail that is agnostic; masked and mask agnostic */
+
+static void core_case(const struct call *c, const char *where)
+{
+    static struct state s;
+    const uint64_t *n = c->scalar;
+    if (c->answer != RVGHASH_DONE || !core_has(c) || !state_of(c, &s))
+        return;
+    const struct state *after = executed((uint32_t)n[WORD], &s, 1, where);
+    expect(&s, c);
+    compare(&s, after, where);
+    by_core++;
+    if (vstart_of(c) >= n[VL])
+        return;
+    with_tail += n[TAIL_AGNOSTIC] && n[VL] * n[SEW] < n[LMUL] * n[VLEN];
+    with_mask += n[MASK_AGNOSTIC] && (n[WORD] >> 25 & 1) == 0;
 }
 
 /* Refusals that no case of the oracle has. Each of these words would be done under the settings that a careless look at vtype
@@ -290,7 +348,13 @@ static const uint8_t *map_file(const char *path, size_t *length)
     return mmap(NULL, *length, PROT_READ, MAP_PRIVATE, file, 0);
 }
 
-static void all_cases(const char *path)
+static void trap_and_frame_case(const struct call *c, const char *where)
+{
+    trap_case(c, where);
+    frame_case(c, where);
+}
+
+static void all_cases(const char *path, void (*take)(const struct call *, const char *))
 {
     struct call c;
     size_t length;
@@ -299,10 +363,8 @@ static void all_cases(const char *path)
         at = take_call(at, &c);
         if (at == NULL)
             fail("the file is not as the oracle writes it", call_name(turn));
-        if (c.function == EXECUTE || c.function == EXECUTE_POLICIES) {
-            trap_case(&c, call_name(turn));
-            frame_case(&c, call_name(turn));
-        }
+        if (c.function == EXECUTE || c.function == EXECUTE_POLICIES)
+            take(&c, call_name(turn));
     }
 }
 
@@ -312,6 +374,27 @@ static void fatal(void)
     trap_install();
     __asm__ volatile(".option push\n .option arch, +v\n vsetivli zero, 4, e8, m1, ta, ma\n csrwi vstart, 3\n"
                      ".insn 4, 0xB2862277\n .option pop");
+}
+
+static int on_the_core(const char *path)
+{
+    install_refused();
+    all_cases(path, core_case);
+    printf("core: VLEN %zu: %lu words executed by the core, %lu of them with an agnostic tail, %lu masked and mask agnostic; "
+           "the whole state is as the oracle says\n",
+           file_bytes / 4, by_core, with_tail, with_mask);
+    return by_core < 500 || with_tail < 50 || with_mask < 50;
+}
+
+static int in_traps(const char *path)
+{
+    install();
+    trap_others();
+    all_cases(path, trap_and_frame_case);
+    printf("traps: VLEN %zu: %lu words trapped, %lu of them refused, %lu of these with vstart not 0; in frames %lu, %lu refused; "
+           "the whole state is as it must be\n",
+           file_bytes / 4, live, live_refused, live_refused_in_course, framed, framed_refused);
+    return live < 2000 || live_refused_in_course < 50 || framed < 10000;
 }
 
 int main(int argc, char **argv)
@@ -328,15 +411,8 @@ int main(int argc, char **argv)
     if (room == MAP_FAILED || file_bytes > RVGHASH_FILE_BYTES(512))
         fail("no memory, or VLEN is over 512", "set-up");
     memcpy(room, word_start, (size_t)(word_end - word_start));
-    install();
-    trap_others();
-    all_cases(argv[1]);
-    printf("traps: VLEN %lu: %lu words trapped, %lu of them refused, %lu of these with vstart not 0; in frames %lu, %lu refused; "
-           "the whole state is as it must be\n",
-           8 * vlenb, live, live_refused, live_refused_in_course, framed, framed_refused);
-    if (live < 2000 || live_refused_in_course < 50 || framed < 10000) {
+    int few = argc > 2 && strcmp(argv[1], "--core") == 0 ? on_the_core(argv[2]) : in_traps(argv[1]);
+    if (few)
         printf("traps: too few\n");
-        return 1;
-    }
-    return 0;
+    return few;
 }

@@ -105,6 +105,37 @@ pub fn on_any_file(rng: &mut Rng, word: u32, [vlen, sew, lmul]: [u32; 3], vl: u3
     Case { word: Hex(word as u64), vlen, sew, lmul, policies: None, vl, vstart, scalar, file }
 }
 
+/// A word whose groups lie past register 0, so that it may have a mask.
+pub fn past_the_mask(rng: &mut Rng, row: &Row, vm: u32, lmul: u32) -> u32 {
+    let [vd, vs2, vs1] = [0; 3].map(|_| lmul * (1 + rng.below_u32(32 / lmul - 1)));
+    row.encode(vm, vs2, vs1, vd)
+}
+
+/// Each word at the SEW at which a core with Zvbc and Zvkg may have it, under each VLEN, LMUL and policies, masked and
+/// unmasked where it may be either: vl below VLMAX where there is room, and at it, from element 0 and from any on.
+pub fn under_policies(rng: &mut Rng) -> Vec<Case> {
+    let mut cases = Vec::new();
+    for (row, setting) in words_and_settings() {
+        let ([vlen, sew, lmul], is_ghash) = (setting, row.kind.is_ghash());
+        if sew != if is_ghash { 32 } else { 64 } {
+            continue;
+        }
+        let (step, most) = (if is_ghash { 4 } else { 1 }, vlmax(vlen, sew, lmul));
+        let vms = row.vm.map_or(vec![0, 1], |vm| vec![vm]);
+        for (policies, vm) in POLICIES.into_iter().flat_map(|policies| vms.iter().map(move |&vm| (policies, vm))) {
+            let below = step * (1 + rng.below_u32((most / step - 1).max(1)));
+            for vl in [below, most] {
+                for vstart in [0, step * rng.below_u32(vl / step + 1)] {
+                    let word = past_the_mask(rng, row, vm, lmul);
+                    let case = on_any_file(rng, word, setting, vl, vstart);
+                    cases.push(Case { policies: Some(policies), ..case });
+                }
+            }
+        }
+    }
+    cases
+}
+
 /// A VLEN and a file of which one at least is not allowed.
 pub fn not_allowed(rng: &mut Rng) -> (u32, Bytes) {
     let (bad_vlen, bad_file) = rng.pick(&[(1000, 0), (1000, 300), (0, 1000)]);

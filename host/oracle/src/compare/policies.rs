@@ -2,9 +2,9 @@
 //! input.
 
 use super::execute::{compare, Memory};
-use super::execute_inputs::{any_with_policies, on_any_file, vlmax, words_and_settings, Case};
+use super::execute_inputs::{any_with_policies, on_any_file, past_the_mask, vlmax, words_and_settings, Case};
 use crate::model::execute::POLICIES;
-use crate::model::word::{Row, TABLE};
+use crate::model::word::TABLE;
 use crate::report::{Group, Run};
 use crate::rng::Rng;
 
@@ -20,12 +20,6 @@ fn under_each_policy(group: &mut Group, memory: &mut Memory, rng: &mut Rng, mut 
         case.policies = Some(policies);
         compare(group, memory, rng, &case);
     }
-}
-
-/// A word whose groups lie past register 0, so that it may have a mask.
-fn past_the_mask(rng: &mut Rng, row: &Row, vm: u32, lmul: u32) -> u32 {
-    let [vd, vs2, vs1] = [0; 3].map(|_| lmul * (1 + rng.below_u32(32 / lmul - 1)));
-    row.encode(vm, vs2, vs1, vd)
 }
 
 /// Each word under each setting, masked where it may be and unmasked, with vl up to VLMAX and one more, and with vstart

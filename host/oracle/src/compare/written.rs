@@ -1,7 +1,7 @@
 //! Cases in a file, for a library of another machine: what each call is lent, and what it must answer and leave.
 //! host/tests/riscv_cases.h has the reader's side of the format.
 
-use super::execute_inputs::{any, any_with_policies, keys_at_group, single_bits, Case};
+use super::execute_inputs::{any, any_with_policies, keys_at_group, single_bits, under_policies, Case};
 use super::hash::cut;
 use super::inputs::{block, out_after, out_before, part_length, perhaps_odd};
 use super::record::any_put;
@@ -264,9 +264,10 @@ pub fn write(run: &Run, path: &str) -> Result<()> {
         }
         println!("written: {name}: {}", count * run.factor);
     }
-    let lists: [(&str, fn(&mut Rng) -> Vec<Case>); 2] = [
+    let lists: [(&str, fn(&mut Rng) -> Vec<Case>); 3] = [
         ("executions, all pairs of single bits", single_bits),
         ("executions, keys at both ends of vd's group", keys_at_group),
+        ("executions with policies, under each VLEN and LMUL", under_policies),
     ];
     for (name, list) in lists {
         let list = list(&mut Rng::for_call(run.seed, name, 0));
