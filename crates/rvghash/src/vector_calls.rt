@@ -11,21 +11,6 @@ use vector_group::group_refusal;
 use vector_group::part_of;
 use vector_registers::settings::Settings;
 
-fn settings(vlen: u32, sew: u32, lmul: u32, vta: bool, vma: bool, vl: u32, vstart: u32) -> Settings
-    ensures { λ s. ⌜ s ≡ settingsOf vlen sew lmul vta vma vl vstart ⌝ }
-{
-    Settings {
-        vlen,
-        sew,
-        lmul,
-        vta,
-        vma,
-        vl,
-        vstart,
-    }
-}
-
-// With both policies off.
 #[no_mangle]
 pub extern "C" fn rvghash_execute(
     word: u32,
@@ -41,10 +26,8 @@ pub extern "C" fn rvghash_execute(
         × (now (vstart .exit) ≡ vstartAfter (length (now (file .entry))) word (settingsOf vlen sew lmul false false vl (now (vstart .entry))))
         × (now (file .exit) ≡ executed word (settingsOf vlen sew lmul false false vl (now (vstart .entry))) scalar (now (file .entry))) ⌝ }
 {
-    let s = settings(vlen, sew, lmul, false, false, vl, *vstart);
-    let done = execute(word, s, scalar, file);
-    *vstart = done.vstart;
-    done.number
+    let off = false;
+    rvghash_execute_policies(word, vlen, sew, lmul, off, off, vl, vstart, scalar, file)
 }
 
 #[no_mangle]
@@ -64,7 +47,15 @@ pub extern "C" fn rvghash_execute_policies(
         × (now (vstart .exit) ≡ vstartAfter (length (now (file .entry))) word (settingsOf vlen sew lmul «tail_agnostic» «mask_agnostic» vl (now (vstart .entry))))
         × (now (file .exit) ≡ executed word (settingsOf vlen sew lmul «tail_agnostic» «mask_agnostic» vl (now (vstart .entry))) scalar (now (file .entry))) ⌝ }
 {
-    let s = settings(vlen, sew, lmul, tail_agnostic, mask_agnostic, vl, *vstart);
+    let s = Settings {
+        vlen,
+        sew,
+        lmul,
+        vta: tail_agnostic,
+        vma: mask_agnostic,
+        vl,
+        vstart: *vstart,
+    };
     let done = execute(word, s, scalar, file);
     *vstart = done.vstart;
     done.number

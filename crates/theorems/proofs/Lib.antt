@@ -1,11 +1,9 @@
 pub mod Changed
 pub mod Elements
-pub mod Examples
 pub mod Execution
 pub mod Filled
 pub mod Fold
 pub mod Groups
-pub mod Marked
 pub mod Overlap
 pub mod Places
 pub mod Policies
@@ -13,5 +11,4 @@ pub mod Pseudocode
 pub mod Registers
 pub mod ResultBytes
 pub mod Reversal
-pub mod Rows
 pub mod Witnesses

@@ -15,7 +15,7 @@ use Rattle.octets.proofs.BigEndian.{beAt-same}
 use Rattle.octets.proofs.LittleEndian.{readLe-same}
 use Rattle.octets.proofs.Tests.{both}
 use Rattle.vector_registers.specs.declared.settings.Settings.{Settings}
-use Rattle.vector_registers.specs.Settings.{registerBytes, groupLength}
+use Rattle.vector_registers.specs.Settings.{registerBytes, groupLength, withPolicies}
 use Rattle.vector_word.specs.declared.Fields.{Fields}
 use Rattle.vector_kind.specs.declared.Kind.{Kind}
 use Rattle.vector_kind.specs.declared.Kind.the-variants.{VclmulVv, VclmulVx, VclmulhVv, VclmulhVx, VghshVv, VghshVs, VgmulVv, VgmulVs}
@@ -33,7 +33,7 @@ use Rattle.vector_fill.specs.Fill.{maskFilled, tailFilled, filled}
 use Rattle.vector_execute.specs.Execute.{doneKnown, done, executed}
 use Rattle.vector_execute.proofs.Admitted.{Admitted, admitted-as, performed, refused}
 use Rattle.theorems.specs.Execution.{firstUnit, pastUnit, activeUnit, unitBytes, unitPlace, unitOf, Within, WordDone}
-use Rattle.theorems.specs.Policies.{Rule, result, tail, masked, kept, InUnit, ByTail, Gives, EveryByte, BytesOfWords, InactiveIs, OnlyVdGroup, withPolicies, NumbersIgnorePolicies}
+use Rattle.theorems.specs.Policies.{Rule, result, tail, masked, kept, InUnit, ByTail, Gives, EveryByte, BytesOfWords, InactiveIs, OnlyVdGroup, NumbersIgnorePolicies}
 use Rattle.theorems.proofs.Execution.{units-done, unmasked}
 use Rattle.theorems.proofs.Filled.{Fills, MaskedOff, mask-fill, InTail, tail-fill}
 use Rattle.theorems.proofs.Places.{sew32, settings, sews, vd-of}

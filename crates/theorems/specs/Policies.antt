@@ -1,6 +1,7 @@
 -- Every byte of the file after a word that is done, with the policies of document 02's Ask 5 (`EveryByte`): exactly one rule gives it, and
--- the theorem names which; where it is a result's, the byte is told too (`ResultBytes`). What is not active is exactly what document 02 says (`InactiveIs`). No byte outside vd's group changes
--- (`OnlyVdGroup`), and no refusal number looks at the policies (`NumbersIgnorePolicies`).
+-- the theorem names which; where it is a result's, the byte is told too (`ResultBytes`). What is not active is exactly what document 02
+-- says (`InactiveIs`). No byte outside vd's group changes (`OnlyVdGroup`), and no refusal number looks at the policies
+-- (`NumbersIgnorePolicies`).
 -- Assumes nothing.
 use Prim.Native.Nat.{ℕ, _+_, _-_, _*_, _/_, _%_, _^_, _<_, _≤_}
 use mathlib.Core.Bool.{Bool, true, false, cond}
@@ -9,7 +10,7 @@ use mathlib.Core.Path.{_≡_}
 use lib.ListN.{length, getD}
 use Rattle.octets.specs.Bytes.{AreBytes}
 use Rattle.vector_registers.specs.declared.settings.Settings.{Settings}
-use Rattle.vector_registers.specs.Settings.{registerBytes, groupLength}
+use Rattle.vector_registers.specs.Settings.{registerBytes, groupLength, withPolicies}
 use Rattle.vector_word.specs.declared.Fields.{Fields}
 use Rattle.vector_kind.specs.declared.Kind.{Kind}
 use Rattle.vector_kind.specs.Kinds.{isGhash}
@@ -101,11 +102,7 @@ OnlyVdGroup =
     (word : ℕ) (s : Settings) (scalar : ℕ) (file : List ℕ) → AreBytes file → (k : Kind) (f : Fields) → decode word ≡ Known k f
     → (p : ℕ) → (InVdGroup f s p → ⊥) → getD (executed word s scalar file) p 0 ≡ getD file p 0
 
--- the same settings with other policies
-abbrev pub withPolicies : Bool → Bool → Settings → Settings
-withPolicies vta vma s =
-    record { vlen = s .vlen; sew = s .sew; lmul = s .lmul; vta = vta; vma = vma; vl = s .vl; vstart = s .vstart }
-
+-- a word has the same number under all policies
 abbrev pub NumbersIgnorePolicies : Type 0
 NumbersIgnorePolicies =
     (fileLength word : ℕ) (s : Settings) (vta vma : Bool) → refusalOf fileLength word (withPolicies vta vma s) ≡ refusalOf fileLength word s

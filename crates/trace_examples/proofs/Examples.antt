@@ -23,11 +23,11 @@ use Rattle.trace_reader.specs.Reader.{nextAt, placeAfter}
 use Rattle.trace_form.specs.Form.{policiesFrom, wellFormed}
 use Rattle.trace_replay.specs.declared.Replayed.{Replayed}
 use Rattle.trace_replay.specs.Replay.{replayFrom, replayed, numberOf, indexOf}
-use Rattle.theorems.specs.Examples.{file}
-use Rattle.theorems.proofs.Marked.{same, same-at}
-use Rattle.theorems.proofs.Examples.{same-list}
+use Rattle.theorems_examples.specs.Examples.{file}
+use Rattle.theorems_examples.proofs.Marked.{same, same-at}
+use Rattle.theorems_examples.proofs.Examples.{same-list}
 use Rattle.trace_examples.specs.Examples.{Example, writes, policies, gives, replays, numbered, givenBytes, table, Holds, ExamplesHold}
-use Rattle.theorems.proofs.Rows.{allRight, all-show}
+use Rattle.theorems_examples.proofs.Rows.{allRight, all-show}
 
 -- a replay's number and index in a row
 abbrev numbersOf : Replayed → List ℕ

@@ -6,8 +6,8 @@ use mathlib.Core.Path.{_≡_}
 use mathlib.Core.Bool.{Bool, true, false}
 use mathlib.Core.List.{List, [], _∷_, _++_}
 use lib.ListN.{length, set, replicate, take}
-use Rattle.theorems.specs.Examples.{file}
-use Rattle.theorems.specs.Rows.{AllHold}
+use Rattle.theorems_examples.specs.Examples.{file}
+use Rattle.theorems_examples.specs.Rows.{AllHold}
 use Rattle.trace_record.specs.declared.Record.{Record}
 use Rattle.trace_record.specs.Record.{recordBytes, writeNumber, writtenInto}
 use Rattle.trace_policy.specs.Policy.{policyOf}

@@ -61,3 +61,9 @@ abbrev pub applies3 : Settings → Bool
 applies3 s =
     not (sewAllowed (s .sew))
     || (not (lmulAllowed (s .lmul)) || ltb (vlmax (s .vlen) (s .sew) (s .lmul)) (s .vl))
+
+-- ---- for statements: the same settings with other policies (document 02, Ask 5)
+
+abbrev pub withPolicies : Bool → Bool → Settings → Settings
+withPolicies vta vma s =
+    record { vlen = s .vlen; sew = s .sew; lmul = s .lmul; vta = vta; vma = vma; vl = s .vl; vstart = s .vstart }

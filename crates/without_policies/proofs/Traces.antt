@@ -20,7 +20,7 @@ use Rattle.trace_policy.specs.Policy.{vtaOf, vmaOf}
 use Rattle.trace_form.specs.Form.{policiesFrom, wellFormed}
 use Rattle.trace_replay.specs.declared.Replayed.the-variants.{Differs}
 use Rattle.trace_replay.specs.Replay.{settingsOf, agrees, called, Outcome, replayFrom, replayed}
-use Rattle.without_policies.specs.Traces.{OldRecord, oldRecordAt, oldSettingsOf, oldAgrees, oldCalled, oldReplayFrom, oldZeros, OldTracesSame}
+use Rattle.without_policies.specs.Traces.{OldRecord, oldRecordAt, oldSettingsOf, oldAgrees, oldCalled, oldReplayFrom, oldZeros, OldTracesSame, OldTracesTaken}
 
 -- ---- a record whose zero byte is zero
 
@@ -77,3 +77,7 @@ unfolding wellFormed replayed
 old-traces-same vlen file trace h =
     let p = both (eqb (length trace % 24) 0) (oldZeros (length trace / 24) trace 0) h in
     rw (h, p .0, allowed vlen trace (length trace / 24) 0 (p .1)) (from-same vlen trace (length trace / 24) 0 0 file (p .1))
+
+pub old-traces-taken : OldTracesTaken
+unfolding readLe oldZeros
+old-traces-taken = record { empty = refl; two = refl; nonzero = refl; torn = refl }

@@ -1,12 +1,12 @@
 -- A trace as it stood before document 02's Ask 5, with a zero byte in each record: what reading and replay made of it, over the old executor
--- (`Executor`). Replay does the same with it now (`OldTracesSame`).
+-- (`Executor`). Replay does the same with it now (`OldTracesSame`); `OldTracesTaken` shows which traces that speaks of.
 -- Assumes nothing.
 use Prim.Native.Nat.{ℕ, zero, suc, _+_, _/_, _%_}
-use mathlib.Core.Bool.{Bool, true, cond, _&&_}
-use mathlib.Core.List.{List}
+use mathlib.Core.Bool.{Bool, true, false, cond, _&&_}
+use mathlib.Core.List.{List, [], _∷_, _++_}
 use mathlib.Core.Path.{_≡_}
 use lib.Dec.{eqb}
-use lib.ListN.{length}
+use lib.ListN.{length, replicate}
 use Rattle.octets.specs.LittleEndian.{readLe}
 use Rattle.without_policies.specs.Executor.{OldSettings, oldRefusalOf, oldExecuted}
 use Rattle.trace_replay.specs.declared.Replayed.the-variants.{Done, Differs, Refused}
@@ -66,3 +66,15 @@ oldReplayed vlen file trace =
 
 abbrev pub OldTracesSame : Type 0
 OldTracesSame = (vlen : ℕ) (file trace : List ℕ) → oldWellFormed trace ≡ true → replayed vlen file trace ≡ oldReplayed vlen file trace
+
+-- ---- witnesses: which traces it speaks of. Of a record it looks at the zero byte alone, and of a trace at every record
+
+abbrev pub withZeroByte : ℕ → List ℕ
+withZeroByte b = replicate 7 255 ++ (b ∷ replicate 16 255)
+
+pub record OldTracesTaken : Type 0 where
+  pub empty : oldWellFormed [] ≡ true
+  pub two : oldWellFormed (withZeroByte 0 ++ withZeroByte 0) ≡ true
+  -- not these: the second zero byte is not zero, or there are 49 bytes
+  pub nonzero : oldWellFormed (withZeroByte 0 ++ withZeroByte 1) ≡ false
+  pub torn : oldWellFormed (withZeroByte 0 ++ (withZeroByte 0 ++ (0 ∷ []))) ≡ false

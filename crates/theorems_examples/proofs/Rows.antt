@@ -4,7 +4,7 @@ use mathlib.Core.Bool.{Bool, true, _&&_}
 use mathlib.Core.List.{List, [], _∷_}
 use lib.Dec.{T}
 use Rattle.gf128.proofs.Tests.{and-left, and-right}
-use Rattle.theorems.specs.Rows.{AllHold}
+use Rattle.theorems_examples.specs.Rows.{AllHold}
 
 unfoldable pub allRight : {A : Type 0} → (A → Bool) → List A → Bool
 allRight right [] = true

@@ -15,6 +15,7 @@ use Rattle.gf128.specs.Entries.{productRefusal, hashRefusal, stepBackRefusal, o
 use Rattle.gf128.specs.Running.{State, noBytes, malformed, feedARefusal, feedCRefusal, finishRefusal}
 use Rattle.gf128.specs.StepBack.{StepsBack}
 use Rattle.vector_registers.specs.declared.settings.Settings.{Settings}
+use Rattle.vector_registers.specs.Settings.{withPolicies}
 use Rattle.vector_group.specs.Group.{groupRefusal, partStart, partLength}
 use Rattle.vector_kind.specs.declared.Kind.{Kind}
 use Rattle.vector_kind.specs.declared.Kind.the-variants.{VclmulVv, VclmulVx, VclmulhVv, VclmulhVx, VghshVv, VghshVs, VgmulVv, VgmulVs}
@@ -27,8 +28,7 @@ use Rattle.vector_reader.specs.Reading.{Reads}
 use Rattle.vector_refusal.specs.Refusal.{refusalOf, refusalOfKnown}
 use Rattle.vector_product.specs.Pieces.{clmul8, sumOfProducts, evenProducts}
 use Rattle.vector_execute.specs.Execute.{executed, vstartAfter}
-use Rattle.theorems.specs.Policies.{withPolicies}
-use Rattle.theorems.specs.Rows.{AllHold}
+use Rattle.theorems_examples.specs.Rows.{AllHold}
 
 -- VLEN, SEW, LMUL, vl and vstart, with both policies off
 abbrev pub settings : ℕ → ℕ → ℕ → ℕ → ℕ → Settings

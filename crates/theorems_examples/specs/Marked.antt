@@ -13,7 +13,7 @@ use Rattle.vector_kind.specs.declared.Kind.the-variants.{VghshVv}
 use Rattle.vector_word.specs.declared.Word.the-variants.{Known}
 use Rattle.vector_word.specs.Word.{decode}
 use Rattle.vector_product.specs.Clmul.{clmul64, lowHalf, highHalf}
-use Rattle.theorems.specs.Rows.{AllHold}
+use Rattle.theorems_examples.specs.Rows.{AllHold}
 
 -- a block as document 01 writes it: its first bytes, zero bytes up to 16, its last bytes
 infix 50 _…_

@@ -45,9 +45,9 @@ use Rattle.vector_ghash.specs.declared.GhashMultiplier.the-variants.{YXorX, YAl
 use Rattle.vector_ghash.specs.GhashWords.{group, multiplierOf, vvStep, vsStep, ghashVv, ghashVs}
 use Rattle.vector_fill.specs.Fill.{onesBetween, maskStep, maskFilled, tailFilled, filled}
 use Rattle.vector_execute.specs.Execute.{doneKnown, done, executed, vstartAfter}
-use Rattle.theorems.specs.Examples.{Example, call, known, word, encodes, decodes, lists, lists-as, lists-into, reads, question, part, times, hash, backward, out, written, state, feeds, finishes, degree, degreeOfBytes, back, pieces, sums, four, execution, running, file, table, Holds, ExamplesHold}
-use Rattle.theorems.proofs.Marked.{same, numbersOf, goesBack, same-at, is-word, goes-back}
-use Rattle.theorems.proofs.Rows.{allRight, all-show}
+use Rattle.theorems_examples.specs.Examples.{Example, call, known, word, encodes, decodes, lists, lists-as, lists-into, reads, question, part, times, hash, backward, out, written, state, feeds, finishes, degree, degreeOfBytes, back, pieces, sums, four, execution, running, file, table, Holds, ExamplesHold}
+use Rattle.theorems_examples.proofs.Marked.{same, numbersOf, goesBack, same-at, is-word, goes-back}
+use Rattle.theorems_examples.proofs.Rows.{allRight, all-show}
 
 -- ---- a call that computes fast: the executor's definition over the product, which is then the quick one
 

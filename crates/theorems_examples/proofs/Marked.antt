@@ -23,8 +23,8 @@ use Rattle.vector_word.specs.declared.Word.{Word}
 use Rattle.vector_word.specs.declared.Word.the-variants.{Known, Unknown}
 use Rattle.vector_word.specs.Word.{decode, kinds}
 use Rattle.vector_product.specs.Clmul.{clmul, clmul64, lowHalf, highHalf}
-use Rattle.theorems.specs.Marked.{Case, carryless, times, back, word, hash, table, Holds, MarkedCasesHold}
-use Rattle.theorems.proofs.Rows.{allRight, all-show}
+use Rattle.theorems_examples.specs.Marked.{Case, carryless, times, back, word, hash, table, Holds, MarkedCasesHold}
+use Rattle.theorems_examples.proofs.Rows.{allRight, all-show}
 
 -- ---- the test: the numbers that the written rules give are the numbers that the case says
 
