@@ -122,9 +122,11 @@ static uint32_t vstart_of(const struct call *c)
     return take_u32(&at);
 }
 
-/* What a done word leaves: vstart 0, and the change to the file. */
-static void expect(struct state *s, const struct call *c)
+/* What a done word leaves: vstart 0, and the change to the file. The core must have taken the case's vl. */
+static void expect(struct state *s, const struct call *c, const char *where)
 {
+    if (s->vl != c->scalar[VL])
+        fail("the core takes another vl", where);
     if (c->answer != RVGHASH_DONE)
         return;
     s->vstart = 0;
@@ -136,8 +138,8 @@ static unsigned rs1_of(const struct call *c) { return c->scalar[WORD] >> 15 & 31
 /* sp, gp and tp, which a signal handler needs as they are. */
 static int is_kept(unsigned x) { return x >= 2 && x <= 4; }
 
-/* Whether this core can be brought to the case: its own VLEN, vl and vstart in range, a word that it does not know, and the
- * scalar in a register that is not sp, gp or tp. */
+/* Whether this core can be brought to the case: its own VLEN, vl and vstart in range, one of the eight words, and the scalar
+ * in a register that is not sp, gp or tp. */
 static int allowed(const struct call *c)
 {
     const uint64_t *n = c->scalar;
@@ -180,7 +182,7 @@ static void trap(uint32_t word, struct state *s, int is_done, const struct call 
     if (!is_done)
         install();
     if (c != NULL)
-        expect(s, c);
+        expect(s, c, where);
     compare(s, after, where);
 }
 
@@ -217,8 +219,6 @@ static void trap_case(const struct call *c, const char *where)
     if (!state_of(c, &s))
         return;
     trap((uint32_t)c->scalar[WORD], &s, c->answer == RVGHASH_DONE, c, where);
-    if (s.vl != c->scalar[VL])
-        fail("the core takes another vl", where);
     live++;
     live_refused += c->answer != RVGHASH_DONE;
     live_refused_in_course += c->answer != RVGHASH_DONE && vstart_of(c) != 0;
@@ -240,7 +240,7 @@ static void core_case(const struct call *c, const char *where)
     if (c->answer != RVGHASH_DONE || !core_has(c) || !state_of(c, &s))
         return;
     const struct state *after = executed((uint32_t)n[WORD], &s, 1, where);
-    expect(&s, c);
+    expect(&s, c, where);
     compare(&s, after, where);
     by_core++;
     if (vstart_of(c) >= n[VL])
