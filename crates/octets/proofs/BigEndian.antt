@@ -1,5 +1,6 @@
 -- Numbers and their bytes, the highest first: a run of bytes read or written in two parts is the run of both.
--- Main results: `beAt-split`, `beBytes-split`, `sets-split`, `beAt-lt`, `beAt-past`, `beAt-byte`, `beAt-beBytes`, `beAt-sets`, `bytes-bits`.
+-- Main results: `beAt-split`, `beBytes-split`, `sets-split`, `beAt-lt`, `beAt-past`, `beAt-byte`, `beAt-beBytes`, `beBytes-read`, `beAt-sets`,
+-- `bytes-bits`.
 -- Assumes nothing.
 use mathlib.Core.Path.{_≡_, refl, sym, ap, ap₂, _∙_}
 use mathlib.Core.List.{List, [], _∷_, _++_, append-assoc, append-nil}
@@ -8,9 +9,9 @@ use native.Mathlib.Nat.{zero-add, add-zero, add-suc, add-assoc, add-mul, mul-one
 use native.Mathlib.Numerals.{add-one}
 use native.Mathlib.Omega.{arith}
 use lib.Arith.{digits-lt, digits-div, digits-mod, mod-mul}
-use lib.ListN.{length, getD, set, length-append, List·getD-append, List·getD-eq-default}
+use lib.ListN.{length, getD, set, take, drop, length-append, length-drop, List·getD-append, List·getD-eq-default}
 use lib.Pow.{pow-add}
-use lib.Seq.{getD-append-seam, sets, lt-length-sets, getD-set-same, getD-set-other}
+use lib.Seq.{getD-append-seam, sets, lt-length-sets, getD-set-same, getD-set-other, getD-drop, take-suc}
 use Rattle.octets.specs.BigEndian.{beAt, beBytes}
 use Rattle.octets.specs.Bytes.{AreBytes}
 use Rattle.octets.proofs.Stores.{sets-append}
@@ -122,6 +123,17 @@ beAt-beBytes (suc n) v =
     (beAt-same (xs ++ b ∷ []) xs 0 n (λ p w. List·getD-append xs (b ∷ []) 0 p (omega (arith, w .1))) ∙ beAt-beBytes n (v / 256))
     (ap (λ (k : ℕ). getD (xs ++ b ∷ []) k 0) (zero-add n ∙ sym l) ∙ getD-append-seam xs b [] 0)
     ∙ sym (last-byte n v)
+
+-- the bytes of a number that was read
+pub beBytes-read : (n : ℕ) (s : List ℕ) (at : ℕ) → AreBytes s → at + n ≤ length s → beBytes n (beAt s at n) ≡ take n (drop at s)
+unfolding beAt beBytes
+beBytes-read zero s at b h = refl
+beBytes-read (suc n) s at b h =
+    let l = length-drop at s in
+    ap₂ (λ (xs : List ℕ) (x : ℕ). xs ++ x ∷ [])
+    (ap (beBytes n) (digits-div (beAt s at n) (b (at + n))) ∙ beBytes-read n s at b (omega arith))
+    (digits-mod (beAt s at n) (b (at + n)) ∙ sym (getD-drop at s n 0))
+    ∙ sym (take-suc (drop at s) n 0 (omega arith))
 
 -- ---- writing
 

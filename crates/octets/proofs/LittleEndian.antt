@@ -1,16 +1,18 @@
 -- Numbers and their bytes, the lowest first: a read and a write by one more byte, past the end, their bounds, a write read again, and the
 -- bytes of a number read, and of a read number.
--- Main results: `read-lt`, `readLe-byte`, `le-same`, `readLe-same`, `writeLe-other`, `writeLe-read`, `writeLe-bytes`, `read-leBytes`, `leBytes-read`.
+-- Main results: `read-lt`, `readLe-byte`, `le-same`, `readLe-same`, `writeLe-other`, `writeLe-read`, `writeLe-bytes`, `writeLe-sets`, `read-leBytes`,
+-- `leBytes-read`.
 -- Assumes nothing.
 use mathlib.Core.Path.{_≡_, refl, sym, ap, ap₂, subst, _∙_}
 use mathlib.Core.List.{List, [], _∷_, _++_}
 use Prim.Native.Nat.{ℕ, zero, suc, _+_, _-_, _*_, _/_, _%_, _^_, _<_, _≤_}
 use native.Mathlib.Decide.{decLe, ℕ-discrete}
 use native.Mathlib.Nat.{zero-lt-suc, lt-of-lt-of-le, lt-of-not-le, le-of-eq, mod-lt, pow-suc, pow-succ', mod-one, div-one, div-div-eq-div-mul, add-zero, zero-add, suc-add}
+use native.Mathlib.Numerals.{add-one}
 use native.Mathlib.Omega.{arith}
 use lib.Arith.{digits-lt, digits-div, digits-mod}
 use lib.ListN.{length, getD, set, take, drop, length-set, List·getD-eq-default}
-use lib.Seq.{set-out, getD-set-same, getD-set-other, getD-append-add, drop-cons}
+use lib.Seq.{sets, set-out, getD-set-same, getD-set-other, getD-append-add, drop-cons}
 use Rattle.octets.specs.Bytes.{AreBytes}
 use Rattle.octets.specs.LittleEndian.{readLe, writeLe, leBytes}
 use Rattle.octets.proofs.BigEndian.{last-byte}
@@ -136,6 +138,14 @@ pub length-leBytes : (n v : ℕ) → length (leBytes n v) ≡ n
 unfolding leBytes
 length-leBytes zero v = refl
 length-leBytes (suc n) v = ap suc (length-leBytes n (v / 256))
+
+-- a write puts them there
+pub writeLe-sets : (n : ℕ) (s : List ℕ) (at v : ℕ) → writeLe n s at v ≡ sets s at (leBytes n v)
+unfolding writeLe leBytes
+writeLe-sets zero s at v = refl
+writeLe-sets (suc n) s at v =
+    writeLe-sets n (set s at (v % 256)) (at + 1) (v / 256)
+    ∙ ap (λ (p : ℕ). sets (set s at (v % 256)) p (leBytes n (v / 256))) (add-one at)
 
 -- a read past the first bytes
 pub read-after : (xs ys : List ℕ) (k n : ℕ) → readLe (xs ++ ys) (length xs + k) n ≡ readLe ys k n

@@ -1,12 +1,12 @@
 -- What stands where after a run of stores, past the end of the list too. Main results: `sets-append`, `sets-other`, `sets-at`, `sets-past`,
--- `sets-cut`, `sets-next`, `sets-whole`. Assumes nothing.
-use mathlib.Core.Path.{_≡_, refl, sym, ap, _∙_}
+-- `sets-cut`, `sets-next`, `sets-whole`, `parts-join`. Assumes nothing.
+use mathlib.Core.Path.{_≡_, refl, sym, ap, ap₂, _∙_}
 use mathlib.Core.List.{List, [], _∷_, _++_, append-nil}
 use Prim.Native.Nat.{ℕ, zero, suc, _+_, _-_, _≤_, _<_, min}
 use native.Mathlib.Nat.{add-zero, add-suc, suc-add, le-of-suc-le-suc, not-suc-le-zero}
 use native.Mathlib.Omega.{arith}
-use lib.ListN.{length, length-set, set, take, getD, drop-of-length-le}
-use lib.Seq.{sets, sets-eq, set-out, getD-set-same, getD-set-other}
+use lib.ListN.{length, length-set, set, take, drop, getD, drop-of-length-le}
+use lib.Seq.{sets, sets-eq, set-out, getD-set-same, getD-set-other, take-add, drop-drop}
 
 pub sets-append : (l : List ℕ) (i : ℕ) (xs ys : List ℕ) → sets (sets l i xs) (i + length xs) ys ≡ sets l i (xs ++ ys)
 sets-append l i [] ys = ap (λ (p : ℕ). sets l p ys) (add-zero i)
@@ -66,3 +66,10 @@ sets-whole l vs e =
     sets-eq vs l 0 (omega arith)
     ∙ ap (λ (r : List ℕ). vs ++ r) (drop-of-length-le l {i = 0 + length vs} (omega arith))
     ∙ append-nil vs
+
+-- n bytes of a list from `at` on, before the m bytes after them
+pub parts-join : (n m at next : ℕ) (s first later : List ℕ) → first ≡ take n (drop at s) → next ≡ at + n → later ≡ take m (drop next s)
+    → first ++ later ≡ take (n + m) (drop at s)
+parts-join n m at next s first later f e l =
+    ap₂ (λ (x y : List ℕ). x ++ y) f (l ∙ ap (take m) (ap (λ (p : ℕ). drop p s) e ∙ sym (drop-drop n at s)))
+    ∙ sym (take-add n m (drop at s))

@@ -2,15 +2,15 @@
 -- Assumes nothing.
 use Prim.Native.Nat.{ℕ, _+_, _≤_}
 use mathlib.Core.List.{List, [], _++_}
-use mathlib.Core.Path.{_≡_, sym, ap, ap₂, _∙_}
+use mathlib.Core.Path.{_≡_, ap, _∙_}
 use native.Mathlib.Nat.{add-zero}
 use native.Mathlib.Omega.{arith}
 use lib.ListN.{length, take, drop}
-use lib.Seq.{sets, take-add, drop-drop}
+use lib.Seq.{sets}
 use Rattle.octets.specs.Bytes.{AreBytes}
 use Rattle.octets.specs.LittleEndian.{readLe, leBytes}
 use Rattle.octets.proofs.LittleEndian.{le-same, read-leBytes, leBytes-read}
-use Rattle.octets.proofs.Stores.{sets-at}
+use Rattle.octets.proofs.Stores.{sets-at, parts-join}
 use Rattle.trace_record.specs.declared.Record.{Record}
 use Rattle.trace_record.specs.Record.{recordAt, recordBytes}
 use Rattle.trace_record.specs.RoundTrip.{WrittenIsRead, ReadIsWritten}
@@ -47,10 +47,7 @@ written-is-read r s at h =
 -- n bytes that were read, before the m bytes after them
 before : (n m at next : ℕ) (s later : List ℕ) → AreBytes s → at + n ≤ length s → next ≡ at + n → later ≡ take m (drop next s)
     → leBytes n (readLe s at n) ++ later ≡ take (n + m) (drop at s)
-before n m at next s later b h e l =
-    ap₂ (λ (x y : List ℕ). x ++ y) (leBytes-read n s at b h)
-    (l ∙ ap (take m) (ap (λ (p : ℕ). drop p s) e ∙ sym (drop-drop n at s)))
-    ∙ sym (take-add n m (drop at s))
+before n m at next s later b h = parts-join n m at next s (leBytes n (readLe s at n)) later (leBytes-read n s at b h)
 
 pub read-is-written : ReadIsWritten
 unfolding leBytes recordAt recordBytes
