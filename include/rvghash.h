@@ -6,8 +6,8 @@
  * - Overlap. What a call may write overlaps nothing else that is lent to it. What it only reads may overlap.
  * - Pointers. A length that goes with a pointer is a number of bytes. Where it is 0 the pointer may be anything, NULL
  *   too; else it points to that many bytes, at any alignment. A pointer without a length (vstart, start, length, kind,
- *   vm, vs2, vs1, vd, word, index, degree, state) is not NULL and has the alignment of its type: 4 bytes for a
- *   uint32_t, 8 for a size_t and for a running hash.
+ *   vm, vs2, vs1, vd, word, index, degree, state, running) is not NULL and has the alignment of its type: 4 bytes for
+ *   a uint32_t, 8 for a size_t and for a running hash.
  * - Threads. No function allocates, blocks, keeps a pointer after it returns, or has state of its own. Each may run in
  *   any thread, on any core and in a handler, and at the same time as any other call, as long as no call writes
  *   memory that another one reads or writes.
@@ -25,9 +25,9 @@
 
 /* The version, as the file VERSION has it. */
 #define RVGHASH_VERSION_MAJOR 0
-#define RVGHASH_VERSION_MINOR 5
+#define RVGHASH_VERSION_MINOR 6
 #define RVGHASH_VERSION_PATCH 0
-#define RVGHASH_VERSION_STRING "0.5.0"
+#define RVGHASH_VERSION_STRING "0.6.0"
 
 #define RVGHASH_BLOCK_BYTES 16                             /* of a key, a block, a hash */
 #define RVGHASH_LIMIT_BYTES 1048576                        /* the most that A may have, and C */
@@ -65,6 +65,8 @@ enum rvghash_number {
     RVGHASH_MANY = 13,             /* step back: more than one earlier hash */
     RVGHASH_BAD_TRACE = 14,        /* replay: the trace's length no multiple of 24, or a policy byte over 3;
                                       record: its length not 24, or SEW, LMUL or the answer over 255 */
+    RVGHASH_BAD_PARKED = 15,       /* park: the buffer's length not 48; unpark: the record's length not 48, a spare
+                                      byte not zero, or malformed */
     RVGHASH_SHORT_TEXT = 22        /* listing: a text's buffer under 32 bytes */
 };
 
@@ -245,8 +247,8 @@ uint32_t rvghash_degree(const uint8_t *block, size_t block_len, uint32_t *degree
 /*
  * A running hash: a message taken in pieces. Its fields are the caller's to keep and copy; no key is in it.
  * phase 0 takes A, 1 takes C, 2 is finished. open holds the bytes since the last whole block, then zeros.
- * spare fills the struct up, so that it has no padding: a call that is done writes zeros there, a refused one leaves it
- * as it is, and no call reads it.
+ * spare fills the struct up, so that it has no padding: a call that writes the struct writes zeros there, any other one
+ * leaves it as it is, and no call reads it.
  */
 struct rvghash_running {
     uint64_t y_high, y_low; /* the partial hash Y, as a big-endian number's halves */
@@ -292,6 +294,40 @@ RVGHASH_MUST_USE
 uint32_t rvghash_finish_plain(struct rvghash_running *state, const uint8_t *key, size_t key_len, uint8_t *out,
                               size_t out_len);
 #define rvghash_finish_fast rvghash_finish
+
+/*
+ * A parked running hash is a record of 48 bytes, and nothing else: Y (16 bytes, as a block's), open (16), a_count (4),
+ * c_count (4), phase (1), seven zero bytes, counts low byte first. No key is in it, and no checksum: a changed record
+ * that is still well-formed is taken. A box that has fed all of A parks to disk, and goes on after
+ * a restart where it was:
+ *
+ *     uint8_t record[RVGHASH_PARKED_BYTES];
+ *     if (rvghash_park(&running, record, sizeof record) != RVGHASH_DONE) return 1;
+ *     if (fwrite(record, sizeof record, 1, disk) != 1 || fflush(disk) != 0) return 1;
+ *     if (fread(record, sizeof record, 1, disk) != 1) return 1; // restarted, disk is open at the record
+ *     if (rvghash_unpark(&running, record, sizeof record) != RVGHASH_DONE) return 1; // running is a fresh one
+ *     return rvghash_feed_c(&running, key, sizeof key, c + running.c_count, c_len - running.c_count) != RVGHASH_DONE;
+ */
+enum { RVGHASH_PARKED_BYTES = 48 };
+
+/*
+ * Parks a running hash of any phase, a finished one too.
+ * Lent: running, only read, and its spare bytes not at all; record, 48 bytes.
+ * Done (0): record holds the record. Refused (10, *running is malformed; 15, record_len is not 48): record is as
+ * before.
+ */
+RVGHASH_MUST_USE
+uint32_t rvghash_park(const struct rvghash_running *running, uint8_t *record, size_t record_len);
+
+/*
+ * Reads a parked running hash back.
+ * Lent: running, written whole, whatever it was; record, of any length, only read.
+ * Done (0): *running is the one that was parked, with zeros in spare, and rvghash_park writes the same record again.
+ * Refused (15; record_len is not 48, one of the last seven bytes is not zero, or the fields are malformed): *running is
+ * a fresh one, as rvghash_running_new makes it. No other refusal changes a running hash that is lent.
+ */
+RVGHASH_MUST_USE
+uint32_t rvghash_unpark(struct rvghash_running *running, const uint8_t *record, size_t record_len);
 
 #ifdef __cplusplus
 }

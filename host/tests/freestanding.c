@@ -1,6 +1,6 @@
 /*
  * Links librvghash.a with -nostdlib: no C library, no start-up code, one memset of its own. The exit status is 0 if the word
- * vghsh.vv, the tail of its group and a running hash (document 01's K14) come out right.
+ * vghsh.vv, the tail of its group and a running hash (document 01's K14), parked and read back, come out right.
  */
 #include "rvghash.h"
 
@@ -27,11 +27,13 @@ static int vector_word(void)
 static int running_hash(void)
 {
     struct rvghash_running running;
-    uint8_t key[16], c[1] = {1}, out[16];
+    uint8_t key[16], c[1] = {1}, record[RVGHASH_PARKED_BYTES], out[16];
     memset(key, 0, sizeof key);
     key[0] = 0x80;
     rvghash_running_new(&running);
     return rvghash_feed_c(&running, key, 16, c, 1) == RVGHASH_DONE &&
+           rvghash_park(&running, record, sizeof record) == RVGHASH_DONE &&
+           rvghash_unpark(&running, record, sizeof record) == RVGHASH_DONE &&
            rvghash_finish(&running, key, 16, out, 16) == RVGHASH_DONE && out[0] == 1 && out[15] == 8;
 }
 

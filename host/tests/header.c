@@ -86,6 +86,165 @@ static void running(void)
     expect(rvghash_finish_plain(&r, one, 16, out, 16) == RVGHASH_BAD_RUNNING && is_block(out, 0, 0), "finishing again");
 }
 
+/* In the middle of C, with ten open bytes. But for zeros no two bytes of its record are the same. */
+static void fill_running(struct rvghash_running *r)
+{
+    memset(r, 0xFF, sizeof *r);
+    r->y_high = 0x4142434445464748;
+    r->y_low = 0x494A4B4C4D4E4F50;
+    memset(r->open, 0, sizeof r->open);
+    for (uint8_t i = 0; i < 10; i++)
+        r->open[i] = (uint8_t)(0x51 + i);
+    r->a_count = 0x0F2E2D;
+    r->c_count = 0x0C3B3A;
+    r->phase = 1;
+}
+
+/* The record of that one. */
+static void fill_record(uint8_t *record)
+{
+    const uint8_t tail[] = {0x2D, 0x2E, 0x0F, 0, 0x3A, 0x3B, 0x0C, 0, 1};
+    memset(record, 0, RVGHASH_PARKED_BYTES);
+    for (uint8_t i = 0; i < 16 + 10; i++)
+        record[i] = (uint8_t)(0x41 + i);
+    memcpy(record + 32, tail, sizeof tail);
+}
+
+/* The record's bytes, then what is refused, which leaves the buffer and the byte after it. 10 comes before 15. */
+static void park(void)
+{
+    uint8_t bytes[RVGHASH_PARKED_BYTES + 1], want[RVGHASH_PARKED_BYTES + 1];
+    const size_t length = RVGHASH_PARKED_BYTES;
+    struct rvghash_running r, before;
+    expect(length == 48 && RVGHASH_BAD_PARKED == 15, "a parked record is 48 bytes, and its number 15");
+    memset(bytes, '#', sizeof bytes);
+    fill_record(want);
+    want[length] = '#';
+    fill_running(&r);
+    fill_running(&before);
+    expect(rvghash_park(&r, bytes, length) == RVGHASH_DONE, "parking");
+    expect(memcmp(bytes, want, sizeof want) == 0, "the parked record's bytes, whatever the struct's spare bytes");
+    memset(want, '#', sizeof want);
+    memset(bytes, '#', sizeof bytes);
+    expect(rvghash_park(&r, bytes, length - 1) == RVGHASH_BAD_PARKED, "parking into 47 bytes");
+    expect(rvghash_park(&r, bytes, length + 1) == RVGHASH_BAD_PARKED, "parking into 49 bytes");
+    expect(rvghash_park(&r, NULL, 0) == RVGHASH_BAD_PARKED, "parking into nothing");
+    expect(memcmp(&r, &before, sizeof r) == 0, "parking leaves the running hash, its spare bytes too");
+    r.open[10] = 1;
+    expect(rvghash_park(&r, bytes, length) == RVGHASH_BAD_RUNNING, "parking an open byte that is not C's");
+    fill_running(&r);
+    r.phase = 3;
+    expect(rvghash_park(&r, bytes, length) == RVGHASH_BAD_RUNNING, "parking in phase 3");
+    expect(rvghash_park(&r, bytes, length - 1) == RVGHASH_BAD_RUNNING, "10 comes before 15");
+    expect(rvghash_park(&r, NULL, 0) == RVGHASH_BAD_RUNNING, "10 comes before 15, with no buffer");
+    expect(memcmp(bytes, want, sizeof bytes) == 0, "a refusal leaves the buffer");
+}
+
+/* Reads a record that is this one but for a byte: refused, and the running hash is then a fresh one. */
+static void not_read(size_t place, uint8_t byte, size_t length, const char *what)
+{
+    uint8_t record[RVGHASH_PARKED_BYTES + 1], before[sizeof record];
+    struct rvghash_running r, fresh;
+    fill_record(record);
+    record[RVGHASH_PARKED_BYTES] = 0;
+    record[place] = byte;
+    memcpy(before, record, sizeof record);
+    fill_running(&r);
+    rvghash_running_new(&fresh);
+    expect(rvghash_unpark(&r, record, length) == RVGHASH_BAD_PARKED, what);
+    expect(memcmp(&r, &fresh, sizeof r) == 0, "a refused record yields a fresh running hash");
+    expect(memcmp(record, before, sizeof record) == 0, "a record is only read");
+}
+
+/* The record is read back, and written again; others are refused. */
+static void unpark(void)
+{
+    uint8_t record[RVGHASH_PARKED_BYTES], again[RVGHASH_PARKED_BYTES];
+    const size_t length = RVGHASH_PARKED_BYTES;
+    struct rvghash_running r, want, fresh;
+    memset(&r, 0xFF, sizeof r);
+    rvghash_running_new(&fresh);
+    fill_record(record);
+    fill_running(&want);
+    memset(want.spare, 0, sizeof want.spare);
+    expect(rvghash_unpark(&r, record, length) == RVGHASH_DONE, "reading back");
+    expect(memcmp(&r, &want, sizeof r) == 0, "what was parked, with zeros in the spare bytes");
+    expect(rvghash_park(&r, again, length) == RVGHASH_DONE && memcmp(again, record, length) == 0, "the same record again");
+    not_read(0, 1, length - 1, "a parked record of 47 bytes");
+    not_read(0, 1, length + 1, "a parked record of 49 bytes");
+    not_read(16 + 10, 1, length, "an open byte that is not C's");
+    not_read(32 + 2, 0x10, length, "a count of A over the limit");
+    not_read(36 + 3, 1, length, "a count of C over the limit");
+    not_read(40, 0, length, "a count of C in phase 0");
+    not_read(40, 2, length, "an open byte in phase 2");
+    not_read(40, 3, length, "phase 3");
+    for (size_t place = 41; place < length; place++)
+        not_read(place, 0x80, length, "a spare byte that is not zero");
+    expect(rvghash_unpark(&r, NULL, 0) == RVGHASH_BAD_PARKED && memcmp(&r, &fresh, sizeof r) == 0, "no record");
+}
+
+/* These fields and zeros elsewhere, but for a 1 at an open place (-1: at none): parked, and their record read; or malformed. */
+static void side(uint32_t a_count, uint32_t c_count, uint8_t phase, int open, bool malformed, const char *what)
+{
+    uint8_t record[RVGHASH_PARKED_BYTES] = {0}, parked[RVGHASH_PARKED_BYTES];
+    struct rvghash_running r, back, fresh;
+    rvghash_running_new(&r);
+    rvghash_running_new(&fresh);
+    memset(&back, 0xFF, sizeof back);
+    r.a_count = a_count;
+    r.c_count = c_count;
+    r.phase = record[40] = phase;
+    if (open >= 0)
+        r.open[open] = record[16 + open] = 1;
+    for (int i = 0; i < 4; i++) {
+        record[32 + i] = (uint8_t)(a_count >> 8 * i);
+        record[36 + i] = (uint8_t)(c_count >> 8 * i);
+    }
+    expect(rvghash_park(&r, parked, sizeof parked) == (malformed ? RVGHASH_BAD_RUNNING : RVGHASH_DONE), what);
+    expect(malformed || memcmp(parked, record, sizeof parked) == 0, what);
+    expect(rvghash_unpark(&back, record, sizeof record) == (malformed ? RVGHASH_BAD_PARKED : RVGHASH_DONE), what);
+    expect(memcmp(&back, malformed ? &fresh : &r, sizeof back) == 0, what);
+}
+
+/* Both sides of each clause of document 01's "Malformed". */
+static void sides(void)
+{
+    side(0, 0, 2, -1, false, "phase 2");
+    side(0, 0, 3, -1, true, "phase 3, and nothing else wrong");
+    side(0, 0, 4, -1, true, "phase 4");
+    side(RVGHASH_LIMIT_BYTES, 0, 0, -1, false, "A at the limit");
+    side(RVGHASH_LIMIT_BYTES + 1, 0, 0, -1, true, "A past the limit");
+    side(1 << 24, 0, 0, -1, true, "A of 2^24 bytes");
+    side(0, RVGHASH_LIMIT_BYTES, 1, -1, false, "C at the limit");
+    side(0, RVGHASH_LIMIT_BYTES + 1, 1, -1, true, "C past the limit");
+    side(0, 1, 1, -1, false, "a byte of C in phase 1");
+    side(0, 1, 0, -1, true, "a byte of C in phase 0");
+    side(19, 0, 0, 2, false, "the last open byte of A");
+    side(19, 0, 0, 3, true, "an open byte after A's");
+    side(19, 0, 0, 15, true, "the last open byte of all");
+    side(16, 0, 0, 0, true, "an open byte where A has whole blocks");
+    side(0, 19, 1, 2, false, "the last open byte of C");
+    side(31, 19, 1, 3, true, "an open byte after C's");
+    side(31, 31, 2, -1, false, "no open byte in phase 2");
+    side(31, 31, 2, 0, true, "an open byte in phase 2, at the first place");
+}
+
+/* K14 under way, parked, read into another struct, and finished there; a finished one is parked as well. */
+static void parked_between(void)
+{
+    uint8_t one[16] = {0x80}, c[1] = {1}, record[RVGHASH_PARKED_BYTES], out[16];
+    struct rvghash_running r, other;
+    rvghash_running_new(&r);
+    memset(&other, 0xFF, sizeof other);
+    expect(rvghash_feed_c(&r, one, 16, c, 1) == RVGHASH_DONE, "K14, to be parked");
+    expect(rvghash_park(&r, record, sizeof record) == RVGHASH_DONE, "K14, parked");
+    expect(rvghash_unpark(&other, record, sizeof record) == RVGHASH_DONE, "K14, read back");
+    expect(memcmp(&other, &r, sizeof r) == 0, "K14, the same running hash");
+    expect(rvghash_finish(&other, one, 16, out, 16) == RVGHASH_DONE && is_block(out, 1, 8), "K14, finished elsewhere");
+    expect(rvghash_park(&other, record, sizeof record) == RVGHASH_DONE && memcmp(record, out, 16) == 0 && record[40] == 2,
+           "a finished one is parked, its hash first");
+}
+
 /* VERSION is the file's content, given by the compiler's line. */
 static void version(void)
 {
@@ -366,6 +525,10 @@ int main(void)
     constants();
     fields();
     running();
+    park();
+    unpark();
+    sides();
+    parked_between();
     vector();
     policies();
     words();

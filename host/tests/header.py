@@ -2,7 +2,7 @@
 """Holds the C declarations against the library: include/rvghash.h as the kit's own clang parses it, the exported signatures of
 crates/rvghash/src, and the oracle's host/oracle/src/ffi.rs. They must agree on every function's name and answer, on its
 parameters' names, order and types, and on the running hash's fields. The header's refusal numbers must be README's table,
-and its kinds of word those of crates/vector_kind.
+its kinds of word those of crates/vector_kind, and its lengths of records the constants of these names in the crates.
 
     header.py [ARCHIVE]     compares; with librvghash.a, its global symbols too
     header.py --self-test   puts wrong declarations into a copy of the header: each must be refused
@@ -72,7 +72,7 @@ def constant(node):
 
 
 def of_header(header):
-    """What the header declares: functions, the struct's fields, each enum's names and numbers."""
+    """What the header declares: functions, the struct's fields, each enum's names and numbers; those without a name in one."""
     functions, fields, enums = {}, [], {NUMBERS: [], KINDS: []}
     for node in parsed(header):
         if node["kind"] == "FunctionDecl":
@@ -81,7 +81,8 @@ def of_header(header):
         elif node["kind"] == "RecordDecl" and f"struct {node.get('name')}" == STRUCT:
             fields = named_types(node, "FieldDecl")
         elif node["kind"] == "EnumDecl":
-            enums[node.get("name")] = [(inner["name"], constant(inner)) for inner in of_kind(node, "EnumConstantDecl")]
+            found = [(inner["name"], constant(inner)) for inner in of_kind(node, "EnumConstantDecl")]
+            enums[node.get("name")] = enums.get(node.get("name"), []) + found
     return functions, fields, enums
 
 
@@ -94,8 +95,9 @@ def rattle_parameter(name, kind):
     if kind in ("&[u8]", "&mut [u8]"):
         const = "" if "mut" in kind else "const "
         return [(name, f"{const}uint8_t *"), (f"{name}_len", "size_t")]
-    if kind == "&mut Running":
-        return [(name, f"{STRUCT} *")]
+    if kind in ("&Running", "&mut Running"):
+        const = "" if "mut" in kind else "const "
+        return [(name, f"{const}{STRUCT} *")]
     number, pointer = (kind[5:], " *") if kind.startswith("&mut ") else (kind, "")
     return [(name, NUMBER_TYPES.get(number, f"no C type for {kind}") + pointer)]
 
@@ -182,6 +184,13 @@ def kinds_of_library():
     return [("RVGHASH_" + re.sub(r"\B(?=[A-Z])", "_", name).upper(), number) for name, number in clauses]
 
 
+def lengths_of_library(names):
+    """The crates' constants of these names: RVGHASH_RECORD_BYTES is RECORD_BYTES."""
+    sources = "".join(read(path) for path in sorted(glob.glob("crates/*/src/**/*.rt", recursive=True)))
+    values = [(name, re.findall(rf"^pub const {name.removeprefix('RVGHASH_')}: usize = (\d+);$", sources, re.M)) for name in names]
+    return [(name, ", ".join(found) or "nothing") for name, found in values]
+
+
 def complaints(header):
     """Everything in which the header differs from the rest."""
     functions, fields, enums = of_header(header)
@@ -192,6 +201,9 @@ def complaints(header):
         found += [text.format(where) for text in differences(STRUCT, fields, struct_fields(path))]
     found += [text.format("README") for text in number_differences(header, enums[NUMBERS])]
     found += [text.format("crates/vector_kind") for text in differences(f"enum {KINDS}", enums[KINDS], kinds_of_library())]
+    lengths = [(name, value) for name, value in enums.get(None, []) if name.endswith("_BYTES")]
+    theirs = lengths_of_library(["RVGHASH_RECORD_BYTES", "RVGHASH_PARKED_BYTES"])
+    found += [text.format("the crates") for text in differences("the lengths of records", lengths, theirs)]
     return found
 
 
@@ -231,6 +243,18 @@ WRONG = [
     ("a text to read that is not const", {"const uint8_t *text": "uint8_t *text"}),
     ("vs1 and vs2 exchanged", {"uint32_t *vs2, uint32_t *vs1": "uint32_t *vs1, uint32_t *vs2"}),
     ("a number 21", {"RVGHASH_SHORT_TEXT = 22 ": "RVGHASH_SHORT_TEXT = 21 "}),
+    ("a number 16", {"RVGHASH_BAD_PARKED = 15,": "RVGHASH_BAD_PARKED = 16,"}),
+    ("another meaning of number 15", {"unpark: the record's length not 48, ": ""}),
+    ("a parked record of 47 bytes", {"RVGHASH_PARKED_BYTES = 48": "RVGHASH_PARKED_BYTES = 47"}),
+    ("a running hash to park that is not const", {"rvghash_park(const struct": "rvghash_park(struct"}),
+    ("a running hash to read into that is const", {"rvghash_unpark(struct": "rvghash_unpark(const struct"}),
+    ("a buffer to park into that is const", {"running, uint8_t *record": "running, const uint8_t *record"}),
+    ("a parked record that is not const", {"running, const uint8_t *record": "running, uint8_t *record"}),
+    ("a buffer's length of 32 bits",
+     {"running, uint8_t *record, size_t record_len": "running, uint8_t *record, uint32_t record_len"}),
+    ("a parked record without its length", {"running, const uint8_t *record, size_t record_len": "running, const uint8_t *record"}),
+    ("parking left out",
+     {"RVGHASH_MUST_USE\nuint32_t rvghash_park(const struct rvghash_running *running, uint8_t *record, size_t record_len);": ""}),
 ]
 
 
@@ -266,8 +290,8 @@ def main():
         print("header:", text)
     if found or not functions or not enums[NUMBERS] or not enums[KINDS]:
         sys.exit("header: the declarations differ")
-    print(f"header: {len(functions)} functions, the struct, {len(enums[NUMBERS])} numbers and {len(enums[KINDS])} kinds of word "
-          "are the same in the header, the library, the oracle and README")
+    print(f"header: {len(functions)} functions, the struct, {len(enums[NUMBERS])} numbers, {len(enums[KINDS])} kinds of word "
+          "and the records' lengths are the same in the header, the library, the oracle and README")
 
 
 if __name__ == "__main__":

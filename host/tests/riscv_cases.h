@@ -25,6 +25,8 @@ enum function {
     PUT_RECORD,
     REPLAY,
     EXECUTE_POLICIES,
+    PARK,
+    UNPARK,
     FUNCTIONS
 };
 

@@ -159,10 +159,10 @@ module _ (m : Mutability) (P : Says) {M : Type 1} (𝓤 : URA M) where
   }
 
 -- ---- what is had at exit of the key and the bytes, which the body has given up for good: what says their last values
-abbrev given-up : {n : ℕ} (s : Slot n) → Stay s yes
+abbrev pub given-up : {n : ℕ} (s : Slot n) → Stay s yes
 given-up s = record { fit = λ κs x f. Unit {0}; has = λ κs x f vs. left (s .row κs .exit yes) x f }
 
-gives-up : {M : Type 1} (𝓤 : URA M) (H : Heap 𝓤) (A : Atoms 𝓤) (W : Given 𝓤 H A) (n : ℕ) (s : Slot n) → Goes 𝓤 H A W n s yes (given-up s)
+pub gives-up : {M : Type 1} (𝓤 : URA M) (H : Heap 𝓤) (A : Atoms 𝓤) (W : Given 𝓤 H A) (n : ℕ) (s : Slot n) → Goes 𝓤 H A W n s yes (given-up s)
 gives-up 𝓤 H A W n s κs x f vs _ = W .laws .⇛-intro (sem 𝓤 H A (left (s .row κs .exit yes) x f))
 
 abbrev stayed : (m : Mutability) → Stays (by-loan m .signature .params) (by-loan m .kept)

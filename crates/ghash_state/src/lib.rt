@@ -69,7 +69,8 @@ fn open_bytes(state: Running) -> usize
     0
 }
 
-fn zeros_from(s: &[u8], from: usize) -> bool
+// Whether all bytes from a place on are zeros.
+pub fn zeros_from(s: &[u8], from: usize) -> bool
     ensures { λ r. ⌜ r ≡ allZero (drop from (now (s .entry))) ⌝ }
 {
     let mut i = from;

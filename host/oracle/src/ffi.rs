@@ -81,6 +81,8 @@ extern "C" {
     ) -> u32;
     fn rvghash_finish(state: *mut Running, key: *const u8, key_len: usize, out: *mut u8, out_len: usize) -> u32;
     fn rvghash_finish_plain(state: *mut Running, key: *const u8, key_len: usize, out: *mut u8, out_len: usize) -> u32;
+    pub fn rvghash_park(running: *const Running, record: *mut u8, record_len: usize) -> u32;
+    pub fn rvghash_unpark(running: *mut Running, record: *const u8, record_len: usize) -> u32;
 }
 
 /// The library's two ways to a product.

@@ -1,7 +1,8 @@
 //! The model against the papers themselves, without the library: the marked cases, the example words and their texts,
-//! the overlap that is reserved, fills and records by hand, published GHASH values, and each of the model's methods
-//! against another one.
+//! the overlap that is reserved, fills, records and parked running hashes by hand, published GHASH values, and each of
+//! the model's methods against another one.
 
+mod parked;
 mod policies;
 mod traces;
 
@@ -32,6 +33,7 @@ pub fn run(seed: u64) -> bool {
     checks.push(("the product against the bit-by-bit rule", product_follows_rule(&mut rng)));
     checks.push(("the inverse by power against the linear system", inverses(&mut rng)));
     checks.push(("the bytes fed against the transition on fields", running_agrees(&mut rng)));
+    checks.extend(parked::checks(&mut rng));
     let failed: Vec<_> = checks.iter().filter(|(_, holds)| !holds).collect();
     for (name, _) in &failed {
         println!("self-check: {name}: FAILED");

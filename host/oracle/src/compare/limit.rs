@@ -4,6 +4,7 @@ use super::hash::{compare_steps, compare_whole, Memory, Whole};
 use super::inputs::out_before;
 use super::running::{Memory as RunningMemory, Step};
 use crate::ffi::Path;
+use crate::model::field::Block;
 use crate::model::hash::LIMIT;
 use crate::report::{Bytes, Group, Run};
 use crate::rng::Rng;
@@ -46,7 +47,6 @@ fn whole(run: &Run) {
     group.end(&[0, 9, 11]);
 }
 
-/// A and C to the limit, one byte more of each, nothing more of each, and the end.
 fn running(run: &Run) {
     let mut group = Group::new(run, "running hash, both sides of the limit");
     let mut memory = RunningMemory::new(LIMIT + 1);
@@ -54,21 +54,28 @@ fn running(run: &Run) {
         let mut rng = group.rng(index);
         let key = rng.block();
         let (a, c) = (rng.bytes(LIMIT + 1), rng.bytes(LIMIT + 1));
-        let mut steps = vec![Step::feed_a(&mut rng, &key, &a), Step::feed_c(&mut rng, &key, &c)];
-        for (part, feed) in [(&a, Step::feed_a as Feed), (&c, Step::feed_c as Feed)] {
-            let at = if index == 0 { 0 } else { rng.below(LIMIT) };
-            if at > 0 {
-                steps.push(feed(&mut rng, &key, &part[..at]));
-                steps.push(feed(&mut rng, &key, &part[at..]));
-            }
-            steps.push(feed(&mut rng, &key, &part[at..LIMIT]));
-            steps.push(feed(&mut rng, &key, &part[LIMIT..]));
-            steps.push(feed(&mut rng, &key, &[]));
-        }
-        steps.push(Step::finish(&mut rng, &key, 0));
+        let cuts = [0; 2].map(|_| if index == 0 { 0 } else { rng.below(LIMIT) });
+        let steps = to_the_limit(&mut rng, &key, [&a, &c], cuts);
         compare_steps(&mut group, &mut memory, &mut rng, &key, &steps);
     }
     group.end(&[0, 11]);
 }
 
-type Feed = fn(&mut Rng, &[u8; 16], &[u8]) -> Step;
+type Feed = fn(&mut Rng, &Block, &[u8]) -> Step;
+
+/// A and C to the limit, each cut in two at a place that is not 0, one byte more of each, nothing more of each, and the
+/// end. The parts are given with that byte more.
+pub fn to_the_limit(rng: &mut Rng, key: &Block, [a, c]: [&[u8]; 2], cuts: [usize; 2]) -> Vec<Step> {
+    let mut steps = vec![Step::feed_a(rng, key, a), Step::feed_c(rng, key, c)];
+    for (part, feed, at) in [(a, Step::feed_a as Feed, cuts[0]), (c, Step::feed_c as Feed, cuts[1])] {
+        if at > 0 {
+            steps.push(feed(rng, key, &part[..at]));
+            steps.push(feed(rng, key, &part[at..]));
+        }
+        steps.push(feed(rng, key, &part[at..LIMIT]));
+        steps.push(feed(rng, key, &part[LIMIT..]));
+        steps.push(feed(rng, key, &[]));
+    }
+    steps.push(Step::finish(rng, key, 0));
+    steps
+}

@@ -7,6 +7,7 @@ mod group;
 mod hash;
 mod inputs;
 mod limit;
+mod parked;
 mod past_32_bits;
 mod policies;
 mod product;
@@ -33,6 +34,7 @@ pub fn run(run: &Run) {
     hash::run(run);
     running::run(run);
     limit::run(run);
+    parked::run(run);
     step_back::run(run);
     degree::run(run);
     words::run(run);

@@ -3,12 +3,14 @@
 
 use super::group::{lend_number, number_in};
 use super::inputs::out_after;
-use super::running::{from_memory, to_memory, Shown};
+use super::running::{from_memory, to_memory, well_formed, Shown};
 use crate::ffi::{rvghash_assemble, rvghash_degree, rvghash_disassemble, rvghash_execute, rvghash_execute_policies};
-use crate::ffi::{rvghash_put_record, rvghash_replay, rvghash_step_back, PATHS, RUNNING_SIZE};
+use crate::ffi::{rvghash_park, rvghash_put_record, rvghash_replay, rvghash_step_back, rvghash_unpark, Running};
+use crate::ffi::{PATHS, RUNNING_SIZE};
 use crate::lent::{huge, huge_with_pages, strays, Lent};
 use crate::model::field::{Block, ZERO};
 use crate::model::hash::LIMIT;
+use crate::model::parked::{record_of, PARKED};
 use crate::model::record::RECORD;
 use crate::model::replay::DIFFERS;
 use crate::model::running::{State, FRESH};
@@ -35,13 +37,14 @@ pub fn run(run: &Run) {
     blocks(&mut group, &mut rng, zeros);
     parts(&mut group, &mut rng, zeros);
     pieces(&mut group, &mut rng, zeros);
+    parked(&mut group, &mut rng, front);
     listings(&mut group, &mut rng, front);
     texts(&mut group, &mut rng, front);
     records(&mut group, &mut rng, front);
     torn_traces(&mut group, &mut rng, trace);
     whole_traces(&mut group, &mut rng, trace);
     replay_file(&mut group, &mut rng, zeros);
-    group.end(&[0, 1, 2, 9, 11, 14, DIFFERS]);
+    group.end(&[0, 1, 2, 9, 11, 14, 15, DIFFERS]);
 }
 
 /// A file length that is right once cut to 32 bits, without policies and with both.
@@ -144,6 +147,28 @@ fn put(front: *mut u8, bytes: &[u8]) {
 fn content(front: *const u8) -> Vec<u8> {
     // SAFETY: so many bytes can be read; the library keeps no pointer after a call.
     unsafe { slice::from_raw_parts(front, FRONT) }.to_vec()
+}
+
+/// Buffers and records that are 48 bytes once cut to 32 bits, of each phase.
+fn parked(group: &mut Group, rng: &mut Rng, front: *mut u8) {
+    let (mut parked, mut running) = (Lent::read("running", RUNNING_SIZE), Lent::write("running", RUNNING_SIZE));
+    for (phase, record_len) in [0, 1, 2].into_iter().flat_map(|phase| [PAST, PAST + PARKED].map(|len| (phase, len))) {
+        let (state, before) = (well_formed(rng, phase), rng.bytes(FRONT));
+        put(front, &before);
+        group.compare(&("rvghash_park", Shown(state), record_len), Seen::expected(15, Bytes(before)), || {
+            let pointer = parked.lend_aligned(rng, &to_memory(&state), 8).cast::<Running>();
+            // SAFETY: so many bytes can be read; the call must refuse them.
+            let answer = unsafe { rvghash_park(pointer, front, record_len) };
+            Seen { answer, left: Bytes(content(front)), stray: strays(&[&parked]) }
+        });
+        put(front, &record_of(&state));
+        group.compare(&("rvghash_unpark", Shown(state), record_len), Seen::expected(15, Shown(FRESH)), || {
+            let pointer = running.lend_aligned(rng, &to_memory(&state), 8).cast::<Running>();
+            // SAFETY: so many bytes can be read, and the running hash stands alone.
+            let answer = unsafe { rvghash_unpark(pointer, front, record_len) };
+            Seen { answer, left: Shown(from_memory(running.content())), stray: strays(&[&running]) }
+        });
+    }
 }
 
 /// Buffers for a text that would be too short if their length were cut. A write behind the first page is a crash, which

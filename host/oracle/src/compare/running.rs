@@ -189,18 +189,24 @@ fn fresh(run: &Run, memory: &mut Memory) {
     group.end(&[0]);
 }
 
-/// Fields of a phase, as well-formed as they come, then perhaps damaged once or twice.
+/// Fields of a phase, well-formed, then perhaps damaged once or twice.
 pub fn any_state(rng: &mut Rng) -> State {
     let phase = rng.pick(&[0, 0, 0, 1, 1, 1, 1, 2]);
+    let mut state = well_formed(rng, phase);
+    for _ in 0..rng.pick(&[0, 0, 0, 1, 1, 2]) {
+        damage(rng, &mut state);
+    }
+    state
+}
+
+/// Well-formed fields of this phase, with any spare bytes.
+pub fn well_formed(rng: &mut Rng, phase: u8) -> State {
     let a_count = count(rng);
     let c_count = if phase == 0 { 0 } else { count(rng) };
     let spare = rng.bytes(7).try_into().expect("7 bytes");
     let mut state = State { y: block(rng), open: ZERO, a_count, c_count, phase, spare };
     let used = open_bytes(&state);
     state.open[..used].copy_from_slice(&block(rng)[..used]);
-    for _ in 0..rng.pick(&[0, 0, 0, 1, 1, 2]) {
-        damage(rng, &mut state);
-    }
     state
 }
 
@@ -217,7 +223,7 @@ fn count(rng: &mut Rng) -> u32 {
 }
 
 /// How many bytes of the open block belong to the current part.
-fn open_bytes(state: &State) -> usize {
+pub fn open_bytes(state: &State) -> usize {
     match state.phase {
         0 => state.a_count as usize % 16,
         1 => state.c_count as usize % 16,

@@ -4,16 +4,18 @@
 use super::execute_inputs::{any, any_with_policies, keys_at_group, single_bits, under_policies, Case};
 use super::hash::cut;
 use super::inputs::{block, out_after, out_before, part_length, perhaps_odd};
+use super::parked::{any_parking, any_record};
 use super::record::any_put;
 use super::running::{any_state, any_step, to_memory, Step, Which};
 use super::step_back::any_case;
 use super::texts::any_text;
 use super::trace_inputs::{any_recording, any_refused_recording, Replay};
 use super::word_inputs::{any_buffer, any_fields, any_word};
-use crate::ffi::{Path, PATHS};
+use crate::ffi::{Path, PATHS, RUNNING_SIZE};
 use crate::model::execute::{execute, Policies};
 use crate::model::field::{Block, ZERO};
 use crate::model::hash::ghash_call;
+use crate::model::parked::{park_call, unpark_call, PARKED};
 use crate::model::record::put_record_call;
 use crate::model::replay::replay_call;
 use crate::model::running::{transition, Fed, State, FRESH};
@@ -39,6 +41,8 @@ enum Function {
     PutRecord,
     Replay,
     ExecutePolicies,
+    Park,
+    Unpark,
 }
 
 impl Function {
@@ -58,6 +62,8 @@ impl Function {
             Function::PutRecord => 14,
             Function::Replay => 15,
             Function::ExecutePolicies => 16,
+            Function::Park => 17,
+            Function::Unpark => 18,
         }
     }
 }
@@ -143,7 +149,7 @@ impl Cases {
             rng.bytes(len)
         });
         let steps = cut(rng, &key, &a, &c);
-        self.pieces(&key, &steps)?;
+        self.pieces(rng, &key, &steps)?;
         let bad = rng.pick(&[0, 0, 0, 100]);
         let (key, out, a, c) = (perhaps_odd(rng, key, bad), out_before(rng, bad), Bytes(a), Bytes(c));
         let model = ghash_call(&key.0, &a.0, &c.0, out.0.len());
@@ -155,12 +161,15 @@ impl Cases {
         Ok(())
     }
 
-    fn pieces(&mut self, key: &Block, steps: &[Step]) -> Result<()> {
+    /// After each piece the running hash is parked, and read back.
+    fn pieces(&mut self, rng: &mut Rng, key: &Block, steps: &[Step]) -> Result<()> {
         let (mut fed, mut before) = (Fed::default(), FRESH);
         for step in steps {
             let answer = fed.apply(step.key.0.len(), step.call());
             let after = fed.state(key);
             self.running(&before, step, answer, &after)?;
+            let record = self.park(rng, &after, PARKED)?;
+            self.unpark(rng, record)?;
             before = after;
         }
         Ok(())
@@ -183,6 +192,28 @@ impl Cases {
             Which::Finish => self.call(function, answer, &[], &[running, read(&s.key), lent(1, &s.out.0, &out.0)]),
             _ => self.call(function, answer, &[], &[running, read(&s.key), read(&s.piece)]),
         }
+    }
+
+    fn any_parked(&mut self, rng: &mut Rng) -> Result<()> {
+        let (state, len) = any_parking(rng);
+        self.park(rng, &state, len)?;
+        let record = any_record(rng);
+        self.unpark(rng, record)
+    }
+
+    /// Parks into a buffer of so many bytes, and gives what it then holds.
+    fn park(&mut self, rng: &mut Rng, state: &State, len: usize) -> Result<Vec<u8>> {
+        let (running, before) = (Bytes(to_memory(state)), rng.bytes(len));
+        let (answer, after) = park_call(state, &before);
+        let running = Lent { align: 8, ..read(&running) };
+        self.call(Function::Park, answer, &[], &[running, lent(1, &before, &after)])?;
+        Ok(after)
+    }
+
+    fn unpark(&mut self, rng: &mut Rng, record: Vec<u8>) -> Result<()> {
+        let (answer, after) = unpark_call(&record);
+        let (before, after) = (rng.bytes(RUNNING_SIZE), to_memory(&after));
+        self.call(Function::Unpark, answer, &[], &[lent(8, &before, &after), read(&Bytes(record))])
     }
 
     fn written_word(&mut self, rng: &mut Rng) -> Result<()> {
@@ -245,12 +276,13 @@ impl Cases {
 pub fn write(run: &Run, path: &str) -> Result<()> {
     let mut cases = Cases { out: BufWriter::new(File::create(path)?) };
     cases.out.write_all(b"rvghash cases 2\n")?;
-    let groups: [(&str, u64, fn(&mut Cases, &mut Rng) -> Result<()>); 11] = [
+    let groups: [(&str, u64, fn(&mut Cases, &mut Rng) -> Result<()>); 12] = [
         ("executions", 24_000, Cases::any_execution),
         ("executions with policies", 12_000, Cases::any_execution_with_policies),
         ("step backs", 1_200, Cases::step_back),
         ("messages, whole and in pieces", 600, Cases::message),
         ("running hashes, any fields", 10_000, Cases::any_running),
+        ("running hashes parked, and records read, any fields", 4_000, Cases::any_parked),
         ("words written", 4_000, Cases::written_word),
         ("words decoded", 4_000, Cases::decoded_word),
         ("words listed", 6_000, Cases::listed_word),
