@@ -12,8 +12,8 @@ use Rattle.gf128.specs.Running.{State, push, pushed, closed, startedC, fedA, fe
 use Rattle.gf128.proofs.Tests.{and-left, and-right}
 use Rattle.ghash_parked.specs.Park.{Reading, parkNumber, parkedInto, unparked}
 use Rattle.ghash_parked.specs.Record.{recordBytes, stateAt}
-use Rattle.ghash_parked.specs.Restarts.{after, fed, restartNumbers, restartedRun}
-use Rattle.ghash_parked_examples.specs.Examples.{Example, parks, reads, refuses, runs, buffer, table, Holds, ExamplesHold}
+use Rattle.ghash_restarts.specs.Restarts.{after, fed, restartNumbers, restartedRun}
+use Rattle.ghash_restarts.specs.Examples.{Example, parks, reads, refuses, runs, buffer, table, Holds, ExamplesHold}
 use Rattle.theorems_examples.proofs.Examples.{same-list}
 use Rattle.theorems_examples.proofs.Marked.{same, same-at}
 use Rattle.theorems_examples.proofs.Rows.{allRight, all-show}

@@ -18,10 +18,10 @@ use Rattle.gf128.specs.Running.{State, Part, fresh, allZero, malformed, feedARe
 use Rattle.gf128.proofs.Next.{next-lt}
 use Rattle.gf128.proofs.Parts.{push-full, push-open, closed-whole, closed-open}
 use Rattle.gf128.proofs.Running.{fed-a-sound, fed-c-sound, finished-sound}
 use Rattle.ghash_parked.specs.Park.{Reading, parkNumber, parkedInto, unparked}
-use Rattle.ghash_parked.specs.RoundTrip.{Held}
-use Rattle.ghash_parked.specs.Restarts.{Event, piece, restart, pieces, Buffers, restarted, after, fed, restartNumbers, restartedRun, SameRun}
-use Rattle.ghash_parked.proofs.RoundTrip.{parked-is-read}
+use Rattle.ghash_restarts.specs.RoundTrip.{Held}
+use Rattle.ghash_restarts.specs.Restarts.{Event, piece, restart, pieces, Buffers, restarted, after, fed, restartNumbers, restartedRun, SameRun}
+use Rattle.ghash_restarts.proofs.RoundTrip.{parked-is-read}
 
 -- ---- what every call keeps: Y is a block, and the open block has 16 bytes
 

@@ -19,13 +19,13 @@ use Rattle.octets.proofs.Tests.{both}
 use Rattle.gf128.specs.Bytes.{blockAt, blockBytes}
 use Rattle.gf128.specs.Running.{State, allZero, malformed}
 use Rattle.gf128.proofs.Running.{sound}
 use Rattle.ghash_parked.specs.declared.layout.Layout.{Layout}
 use Rattle.ghash_parked.specs.declared.layout.Found.the-variants.{One, Nothing}
 use Rattle.ghash_parked.specs.Layout.{counts4, atY, atBlock, atCountA, atCountC, atPhase, atSpare, size}
 use Rattle.ghash_parked.specs.Record.{recordBytes, stateAt, accepted}
 use Rattle.ghash_parked.specs.Park.{Reading, refused, readAs, readBy, parkNumber, unparked}
-use Rattle.ghash_parked.specs.RoundTrip.{ParkedIsRead, ReadIsParked}
+use Rattle.ghash_restarts.specs.RoundTrip.{ParkedIsRead, ReadIsParked}
 use Rattle.ghash_parked.proofs.Fields.{length-recordBytes, written-is-read, spare-zeros}
 
 zeros-only : (s : List ℕ) → allZero s ≡ true → s ≡ replicate (length s) 0
 zeros-only [] e = refl

@@ -14,7 +14,7 @@ use Rattle.ghash_state.specs.State.{view}
 use Rattle.ghash_state.specs.declared.Running.{Running}
 use Rattle.ghash_state.proofs.Running as T
 use Rattle.ghash_state.proofs.Running.Laws as T′
-use Rattle.ghash_parked.specs.RoundTrip.{Held}
+use Rattle.ghash_restarts.specs.RoundTrip.{Held}
 
 pub held-in-memory : (s : Running) (vs : List Val) → Is T.the-row s vs → Held (view s)
 held-in-memory s vs is =

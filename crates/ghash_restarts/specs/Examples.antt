@@ -7,7 +7,7 @@ use mathlib.Core.List.{List, [], _∷_, _++_}
 use lib.ListN.{length, set, replicate, take}
 use Rattle.gf128.specs.Running.{State}
 use Rattle.ghash_parked.specs.Park.{parkNumber, parkedInto, unparked}
-use Rattle.ghash_parked.specs.Restarts.{Event, piece, restart, restartedRun}
+use Rattle.ghash_restarts.specs.Restarts.{Event, piece, restart, restartedRun}
 use Rattle.theorems_examples.specs.Rows.{AllHold}
 
 -- an open block: n bytes 0x10, 0x11 and so on, then zeros
@@ -26,15 +26,15 @@ abbrev pub bytesWith : ℕ → List ℕ → List ℕ
 bytesWith n later =
     0 ∷ 1 ∷ 2 ∷ 3 ∷ 4 ∷ 5 ∷ 6 ∷ 7 ∷ 8 ∷ 9 ∷ 0x0A ∷ 0x0B ∷ 0x0C ∷ 0x0D ∷ 0x0E ∷ 0x0F ∷ opened n ++ later
 
--- 19 bytes of A; C's bytes begun after 0x0A0B0C of A; both finished
-abbrev pub inA : List ℕ
-inA = bytesWith 3 (0x13 ∷ 0 ∷ 0 ∷ 0 ∷ 0 ∷ 0 ∷ 0 ∷ 0 ∷ 0 ∷ 0 ∷ 0 ∷ 0 ∷ 0 ∷ 0 ∷ 0 ∷ 0 ∷ [])
+-- records of each phase: of 19 bytes of A; of 0x0A0B0C bytes of A and 0x0D0E05 of C; of these, finished
+abbrev pub phase0 : List ℕ
+phase0 = bytesWith 3 (0x13 ∷ 0 ∷ 0 ∷ 0 ∷ 0 ∷ 0 ∷ 0 ∷ 0 ∷ 0 ∷ 0 ∷ 0 ∷ 0 ∷ 0 ∷ 0 ∷ 0 ∷ 0 ∷ [])
 
-abbrev pub inC : List ℕ
-inC = bytesWith 5 (0x0C ∷ 0x0B ∷ 0x0A ∷ 0 ∷ 0x05 ∷ 0x0E ∷ 0x0D ∷ 0 ∷ 1 ∷ 0 ∷ 0 ∷ 0 ∷ 0 ∷ 0 ∷ 0 ∷ 0 ∷ [])
+abbrev pub phase1 : List ℕ
+phase1 = bytesWith 5 (0x0C ∷ 0x0B ∷ 0x0A ∷ 0 ∷ 0x05 ∷ 0x0E ∷ 0x0D ∷ 0 ∷ 1 ∷ 0 ∷ 0 ∷ 0 ∷ 0 ∷ 0 ∷ 0 ∷ 0 ∷ [])
 
-abbrev pub finishedBytes : List ℕ
-finishedBytes = bytesWith 0 (0x0C ∷ 0x0B ∷ 0x0A ∷ 0 ∷ 0x05 ∷ 0x0E ∷ 0x0D ∷ 0 ∷ 2 ∷ 0 ∷ 0 ∷ 0 ∷ 0 ∷ 0 ∷ 0 ∷ 0 ∷ [])
+abbrev pub phase2 : List ℕ
+phase2 = bytesWith 0 (0x0C ∷ 0x0B ∷ 0x0A ∷ 0 ∷ 0x05 ∷ 0x0E ∷ 0x0D ∷ 0 ∷ 2 ∷ 0 ∷ 0 ∷ 0 ∷ 0 ∷ 0 ∷ 0 ∷ 0 ∷ [])
 
 -- a buffer of n bytes
 abbrev pub buffer : ℕ → List ℕ
@@ -68,9 +68,9 @@ Holds (runs key inA inC later numbers restarts countA countC phase) =
 unfoldable pub table : List Example
 table =
     -- parked in each phase, a fresh one too; each field at its place, counts low byte first
-    parks (numbered 3 19 0 0) 48 0 inA
-    ∷ parks (numbered 5 0x0A0B0C 0x0D0E05 1) 48 0 inC
-    ∷ parks (numbered 0 0x0A0B0C 0x0D0E05 2) 48 0 finishedBytes
+    parks (numbered 3 19 0 0) 48 0 phase0
+    ∷ parks (numbered 5 0x0A0B0C 0x0D0E05 1) 48 0 phase1
+    ∷ parks (numbered 0 0x0A0B0C 0x0D0E05 2) 48 0 phase2
     ∷ parks (record { y = 0; block = replicate 16 0; countA = 0; countC = 0; phase = 0 }) 48 0 (replicate 48 0)
     -- Y of ones bits
     ∷ parks (record { y = 0xFFFFFFFFFFFFFFFFFFFFFFFFFFFFFFFF; block = replicate 16 0; countA = 0; countC = 0; phase = 0 }) 48 0 (replicate 16 0xFF ++ replicate 32 0)
@@ -92,47 +92,47 @@ table =
     -- 10 comes before 15
     ∷ parks (numbered 0 0 0 3) 47 10 (buffer 47)
     -- read back in each phase
-    ∷ reads inA (numbered 3 19 0 0)
-    ∷ reads inC (numbered 5 0x0A0B0C 0x0D0E05 1)
-    ∷ reads finishedBytes (numbered 0 0x0A0B0C 0x0D0E05 2)
+    ∷ reads phase0 (numbered 3 19 0 0)
+    ∷ reads phase1 (numbered 5 0x0A0B0C 0x0D0E05 1)
+    ∷ reads phase2 (numbered 0 0x0A0B0C 0x0D0E05 2)
     ∷ reads (replicate 48 0) (record { y = 0; block = replicate 16 0; countA = 0; countC = 0; phase = 0 })
     ∷ reads (replicate 16 0xFF ++ replicate 32 0) (record { y = 0xFFFFFFFFFFFFFFFFFFFFFFFFFFFFFFFF; block = replicate 16 0; countA = 0; countC = 0; phase = 0 })
     -- 15: the record's length
     ∷ refuses []
-    ∷ refuses (take 47 inA)
-    ∷ refuses (inA ++ (0 ∷ []))
-    ∷ refuses (inA ++ replicate 16 0)
+    ∷ refuses (take 47 phase0)
+    ∷ refuses (phase0 ++ (0 ∷ []))
+    ∷ refuses (phase0 ++ replicate 16 0)
     -- 15: each spare byte
-    ∷ refuses (set inA 41 1)
-    ∷ refuses (set inA 42 1)
-    ∷ refuses (set inA 43 1)
-    ∷ refuses (set inA 44 1)
-    ∷ refuses (set inA 45 1)
-    ∷ refuses (set inA 46 1)
-    ∷ refuses (set inA 47 1)
-    ∷ refuses (set inA 47 0x80)
+    ∷ refuses (set phase0 41 1)
+    ∷ refuses (set phase0 42 1)
+    ∷ refuses (set phase0 43 1)
+    ∷ refuses (set phase0 44 1)
+    ∷ refuses (set phase0 45 1)
+    ∷ refuses (set phase0 46 1)
+    ∷ refuses (set phase0 47 1)
+    ∷ refuses (set phase0 47 0x80)
     -- 15: the phase
-    ∷ refuses (set finishedBytes 40 3)
-    ∷ refuses (set finishedBytes 40 255)
+    ∷ refuses (set phase2 40 3)
+    ∷ refuses (set phase2 40 255)
     -- 15: a count over the limit, by its first and by its last byte, and at it
-    ∷ reads (set (set (set finishedBytes 32 0) 33 0) 34 0x10) (numbered 0 0x100000 0x0D0E05 2)
-    ∷ refuses (set (set (set finishedBytes 32 1) 33 0) 34 0x10)
-    ∷ refuses (set finishedBytes 35 1)
-    ∷ reads (set (set (set finishedBytes 36 0) 37 0) 38 0x10) (numbered 0 0x0A0B0C 0x100000 2)
-    ∷ refuses (set (set (set finishedBytes 36 1) 37 0) 38 0x10)
-    ∷ refuses (set finishedBytes 39 1)
+    ∷ reads (set (set (set phase2 32 0) 33 0) 34 0x10) (numbered 0 0x100000 0x0D0E05 2)
+    ∷ refuses (set (set (set phase2 32 1) 33 0) 34 0x10)
+    ∷ refuses (set phase2 35 1)
+    ∷ reads (set (set (set phase2 36 0) 37 0) 38 0x10) (numbered 0 0x0A0B0C 0x100000 2)
+    ∷ refuses (set (set (set phase2 36 1) 37 0) 38 0x10)
+    ∷ refuses (set phase2 39 1)
     -- 15: in phase 0 a C count that isn't 0, by its first and by its last byte
-    ∷ refuses (set inA 36 1)
-    ∷ refuses (set inA 39 1)
+    ∷ refuses (set phase0 36 1)
+    ∷ refuses (set phase0 39 1)
     -- 15: an open byte that isn't zero at or after the count of the current part modulo 16; in phase 2, at any place
-    ∷ refuses (set inA 19 1)
-    ∷ refuses (set inA 31 1)
-    ∷ reads (set inA 32 0x14) (numbered 3 20 0 0)
-    ∷ refuses (set inA 32 0x12)
-    ∷ refuses (set inC 21 1)
-    ∷ refuses (set inC 36 4)
-    ∷ refuses (set finishedBytes 16 1)
-    ∷ refuses (set finishedBytes 31 1)
+    ∷ refuses (set phase0 19 1)
+    ∷ refuses (set phase0 31 1)
+    ∷ reads (set phase0 32 0x14) (numbered 3 20 0 0)
+    ∷ refuses (set phase0 32 0x12)
+    ∷ refuses (set phase1 21 1)
+    ∷ refuses (set phase1 36 4)
+    ∷ refuses (set phase2 16 1)
+    ∷ refuses (set phase2 31 1)
     -- a run with restarts before, between and after its calls; the same into 47 bytes, where nothing is parked and what is read is refused
     ∷ runs (0x80 ∷ replicate 15 0) (restart (buffer 48) ∷ piece (1 ∷ 2 ∷ []) ∷ []) (restart (buffer 48) ∷ piece (3 ∷ []) ∷ restart (buffer 48) ∷ restart (replicate 48 0) ∷ [])
     (buffer 48 ∷ []) (0 ∷ 0 ∷ 0 ∷ []) (replicate 10 0) 2 1 2
