@@ -3,8 +3,8 @@
 -- Assumes nothing.
 use Prim.Native.Nat.{ℕ, _+_}
 use mathlib.Core.Bool.{Bool, true, false, cond, not}
-use mathlib.Core.List.{List, [], _∷_}
-use mathlib.Core.Path.{_≡_, refl, sym, ap, ap₂, _∙_}
+use mathlib.Core.List.{List}
+use mathlib.Core.Path.{_≡_, refl, sym, ap, _∙_}
 use native.Mathlib.Omega.{arith}
 use borrow.Author.Tests.{eq-eqb, eqb-true, not-true}
 use lib.Dec.{eqb}
@@ -18,6 +18,7 @@ use Rattle.octets.proofs.Stores.{parts-join}
 use Rattle.octets.proofs.Tests.{both}
 use Rattle.gf128.specs.Bytes.{blockAt, blockBytes}
 use Rattle.gf128.specs.Running.{State, allZero, malformed}
+use Rattle.gf128.proofs.Parts.{zeros-all}
 use Rattle.gf128.proofs.Running.{sound}
 use Rattle.ghash_parked.specs.declared.layout.Layout.{Layout}
 use Rattle.ghash_parked.specs.declared.layout.Found.the-variants.{One, Nothing}
@@ -26,12 +27,6 @@ use Rattle.ghash_parked.specs.Record.{recordBytes, stateAt, accepted}
 use Rattle.ghash_parked.specs.Park.{Reading, refused, readAs, readBy, parkNumber, unparked}
 use Rattle.ghash_restarts.specs.RoundTrip.{ParkedIsRead, ReadIsParked}
 use Rattle.ghash_parked.proofs.Fields.{length-recordBytes, written-is-read, spare-zeros}
-
-zeros-only : (s : List ℕ) → allZero s ≡ true → s ≡ replicate (length s) 0
-zeros-only [] e = refl
-zeros-only (b ∷ s) e =
-    let t = both (eqb b 0) (allZero s) e in
-    ap₂ {A = ℕ} {B = List ℕ} {C = List ℕ} (λ x xs. x ∷ xs) (eqb-true b 0 (t .0)) (zeros-only s (t .1))
 
 -- ---- read, then written
 
@@ -43,7 +38,7 @@ read-is-written l bytes b e h =
     let m = l .«spare_bytes» in
     let left : length (drop (atSpare l) bytes) ≡ m = omega (arith, length-drop (atSpare l) bytes) in
     let spare : replicate m 0 ≡ take m (drop (atSpare l) bytes) =
-    sym (take-all m (drop (atSpare l) bytes) (omega arith) ∙ zeros-only (drop (atSpare l) bytes) h ∙ ap (λ (k : ℕ). replicate k 0) left) in
+    sym (take-all m (drop (atSpare l) bytes) (omega arith) ∙ zeros-all (drop (atSpare l) bytes) h ∙ ap (λ (k : ℕ). replicate k 0) left) in
     parts-join 16 (16 + (n + (n + (1 + m)))) atY atBlock bytes (blockBytes (blockAt bytes atY)) _ (beBytes-read 16 bytes atY b (omega arith)) (omega arith)
     (parts-join 16 (n + (n + (1 + m))) atBlock atCountA bytes (take 16 (drop atBlock bytes)) _ refl (omega arith)
     (parts-join n (n + (1 + m)) atCountA (atCountC l) bytes (leBytes n (readLe bytes atCountA n)) _ (leBytes-read n bytes atCountA b (omega arith)) (omega arith)
