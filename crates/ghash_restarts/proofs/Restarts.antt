@@ -20,7 +20,7 @@ use Rattle.gf128.proofs.Parts.{push-full, push-open, closed-whole, closed-open}
 use Rattle.gf128.proofs.Running.{fed-a-sound, fed-c-sound, finished-sound}
 use Rattle.ghash_parked.specs.Park.{Reading, parkNumber, parkedInto, unparked}
 use Rattle.ghash_restarts.specs.RoundTrip.{Held}
-use Rattle.ghash_restarts.specs.Restarts.{Event, piece, restart, pieces, Buffers, restarted, after, fed, restartNumbers, restartedRun, SameRun}
+use Rattle.ghash_restarts.specs.Restarts.{Event, piece, restart, pieces, Buffers, restarted, after, fed, restartNumbers, restartedRun, SameRun, AnyBuffers}
 use Rattle.ghash_restarts.proofs.RoundTrip.{parked-is-read}
 
 -- ---- what every call keeps: Y is a block, and the open block has 16 bytes
@@ -161,3 +161,6 @@ same-run key inA inC later k ba bc bl =
     let zeros-c = both-zeros (restartNumbers (afterFeedC key) s inC) last (c .restarts) (e .restarts) in
     rw (a .same, c .same, e .same, no-pieces later, a .numbers, c .numbers)
     (refl, both-zeros (restartNumbers (afterFeedA key) fresh inA) (restartNumbers (afterFeedC key) s inC ++ last) (a .restarts) zeros-c)
+
+pub any-buffers : AnyBuffers
+any-buffers = (tt, λ p buffer es e b. (b, (e, b)))

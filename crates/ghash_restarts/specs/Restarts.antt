@@ -80,3 +80,8 @@ abbrev pub SameRun : Type 0
 SameRun =
     (key : List ℕ) (inA inC : List Event) (later : List (List ℕ)) → AreBytes key → Buffers inA → Buffers inC → Buffers (map restart later)
     → (restartedRun key inA inC later .run ≡ runOf key (pieces inA) (pieces inC)) × (allZero (restartedRun key inA inC later .restarts) ≡ true)
+
+-- which runs that speaks of: those of any pieces and any buffers of 48 bytes
+abbrev pub AnyBuffers : Type 0
+AnyBuffers =
+    Buffers [] × ((p buffer : List ℕ) (es : List Event) → length buffer ≡ 48 → Buffers es → Buffers (piece p ∷ es) × Buffers (restart buffer ∷ es))
