@@ -38,7 +38,7 @@ archive: $(lib) ## proves the library and writes target/staticlib/librvghash.a
 $(lib): crates.txt $(shell find crates -name '*.rt' -o -name '*.antt')
 	rt staticlib rvghash
 
-desk: $(command) ## builds the desk's command, target/desk/rvghash, which lists words, reads them back and replays traces
+desk: $(command) ## builds the desk's command, target/desk/rvghash, which lists words, reads them back, replays traces and checks links
 
 $(command): $(lib) include/rvghash.h $(wildcard desk/*)
 	@mkdir -p target/desk

@@ -35,6 +35,11 @@ enum status wrong_line(const struct place *at, const char *what, const uint8_t *
     return STATUS_WRONG;
 }
 
+void tell_agree(size_t count)
+{
+    printf("%zu record%s\n", count, count == 1 ? " agrees" : "s agree");
+}
+
 enum status cannot(const char *file)
 {
     fprintf(stderr, "rvghash: %s: %s\n", file, strerror(errno));

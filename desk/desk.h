@@ -38,6 +38,7 @@ struct subcommand {
     enum status (*run)(const struct arguments *arguments);
 };
 
+extern const struct subcommand links_command;
 extern const struct subcommand list_command;
 extern const struct subcommand replay_command;
 extern const struct subcommand words_command;
@@ -62,6 +63,9 @@ struct quoted quoted(const uint8_t *bytes, size_t length);
 
 /* Tells what is wrong with a line, and shows the bytes meant. */
 enum status wrong_line(const struct place *at, const char *what, const uint8_t *bytes, size_t length);
+
+/* Tells how many records agree. */
+void tell_agree(size_t count);
 
 /* Tells by errno why a file cannot be read or written. */
 enum status cannot(const char *file);

@@ -69,3 +69,13 @@ enum status write_whole(const char *name, const struct bytes *from)
         status = cannot(name);
     return status;
 }
+
+enum status whole_records(const char *name, const struct bytes *file, size_t record_bytes, int refusal)
+{
+    size_t records = file->length / record_bytes, torn = file->length % record_bytes;
+    if (torn == 0)
+        return STATUS_DONE;
+    fprintf(stderr, "%s: refused (%d): the length %zu is no multiple of %zu: record %zu is torn after %zu of its bytes\n",
+            shown_name(name), refusal, file->length, record_bytes, records, torn);
+    return STATUS_FAILED;
+}

@@ -23,4 +23,7 @@ struct bytes {
 enum status read_whole(const char *name, struct bytes *to);
 enum status write_whole(const char *name, const struct bytes *from);
 
+/* Tells where the last record of a file is torn, which is refused with this number. */
+enum status whole_records(const char *name, const struct bytes *file, size_t record_bytes, int refusal);
+
 #endif

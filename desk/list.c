@@ -1,15 +1,6 @@
 /* rvghash list: words in hex, one a line, into their texts. */
+#include "hex.h"
 #include "lines.h"
-
-/* The value of a hex digit, or 16. */
-static uint32_t digit(uint8_t c)
-{
-    if (c >= '0' && c <= '9')
-        return c - (uint32_t)'0';
-    if (c >= 'A' && c <= 'F')
-        return c - (uint32_t)'A' + 10;
-    return c >= 'a' && c <= 'f' ? c - (uint32_t)'a' + 10 : 16;
-}
 
 /* Reads 1 to 8 hex digits, after 0x or not; gives NULL, or what is wrong with them. */
 static const char *read_hex(const uint8_t *hex, size_t length, uint32_t *word)
@@ -19,9 +10,9 @@ static const char *read_hex(const uint8_t *hex, size_t length, uint32_t *word)
         return "not a number in hex";
     *word = 0;
     for (size_t i = first; i < length; i++) {
-        if (digit(hex[i]) > 15)
+        if (hex_digit(hex[i]) > 15)
             return "not a number in hex";
-        *word = *word << 4 | digit(hex[i]);
+        *word = *word << 4 | hex_digit(hex[i]);
     }
     return length - first > 8 ? "more than 32 bits (8 hex digits)" : NULL;
 }

@@ -9,7 +9,7 @@
 #include "desk.h"
 #include "rvghash.h"
 
-static const struct subcommand *const commands[] = {&list_command, &words_command, &replay_command};
+static const struct subcommand *const commands[] = {&list_command, &words_command, &replay_command, &links_command};
 #define COMMANDS (sizeof commands / sizeof commands[0])
 
 static const struct subcommand *find(const char *name)

@@ -5,6 +5,9 @@
 #include <stddef.h>
 #include <stdio.h>
 
+/* The records of one call of the library, after which the progress is told. */
+#define RUN_RECORDS 16384
+
 struct progress {
     int seen;         /* 0: nothing is written */
     const char *what; /* the subcommand */

@@ -8,9 +8,6 @@
 #include "rvghash.h"
 #include "trace.h"
 
-/* The records of one call of the library. Runs that are replayed one after the other are the same as the whole. */
-#define RUN_RECORDS 16384
-
 enum { SHOW, WRITE, ZERO };
 static const struct option options[MOST_OPTIONS + 1] = {
     [SHOW] = {"--show", NULL},
@@ -133,7 +130,7 @@ static void show_record(const struct replay *r)
            record.vstart, record.scalar, record.answer);
 }
 
-/* Replays the next records, and counts those that agree. */
+/* Replays the next records, and counts those that agree. Runs one after the other are the same as the whole. */
 static uint32_t replay_run(struct replay *r, size_t most)
 {
     size_t left = r->records - r->agree, count = left < most ? left : most, index;
@@ -190,15 +187,12 @@ static enum status tell_difference(const struct replay *r)
     return STATUS_WRONG;
 }
 
-/* A number that replay does not give to a trace that was looked through is an error of the command itself. */
+/* A trace that was looked through has no other number. */
 static enum status tell_end(const struct replay *r, uint32_t number)
 {
-    if (number != RVGHASH_DONE && number != RVGHASH_DIFFERS) {
-        fprintf(stderr, "rvghash: %s: record %zu: an answer of replay that cannot be: %" PRIu32 ": %s\n",
-                shown_name(r->trace_name), r->agree, number, meaning_of(number));
-        return STATUS_FAILED;
-    }
-    printf("%zu record%s\n", r->agree, r->agree == 1 ? " agrees" : "s agree");
+    if (number != RVGHASH_DONE && number != RVGHASH_DIFFERS)
+        return cannot_be("replay", shown_name(r->trace_name), r->agree, number);
+    tell_agree(r->agree);
     return number == RVGHASH_DONE ? STATUS_DONE : tell_difference(r);
 }
 

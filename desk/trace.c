@@ -33,12 +33,9 @@ struct record record_of(const struct bytes *trace, size_t index)
 
 enum status look_through(const char *name, const struct bytes *trace)
 {
-    size_t records = trace->length / RVGHASH_RECORD_BYTES, torn = trace->length % RVGHASH_RECORD_BYTES;
-    if (torn > 0) {
-        fprintf(stderr, "%s: refused (%d): the length %zu is no multiple of %d: record %zu is torn after %zu of its bytes\n",
-                shown_name(name), RVGHASH_BAD_TRACE, trace->length, RVGHASH_RECORD_BYTES, records, torn);
-        return STATUS_FAILED;
-    }
+    enum status status = whole_records(name, trace, RVGHASH_RECORD_BYTES, RVGHASH_BAD_TRACE);
+    if (status != STATUS_DONE)
+        return status;
     for (size_t at = POLICY_BYTE; at < trace->length; at += RVGHASH_RECORD_BYTES)
         if (trace->at[at] > ALL_POLICIES) {
             fprintf(stderr, "%s: refused (%d): the policy byte of record %zu, at offset %zu, is 0x%02X, and not 0 to %d\n",

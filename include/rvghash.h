@@ -25,9 +25,9 @@
 
 /* The version, as the file VERSION has it. */
 #define RVGHASH_VERSION_MAJOR 0
-#define RVGHASH_VERSION_MINOR 6
+#define RVGHASH_VERSION_MINOR 7
 #define RVGHASH_VERSION_PATCH 0
-#define RVGHASH_VERSION_STRING "0.6.0"
+#define RVGHASH_VERSION_STRING "0.7.0"
 
 #define RVGHASH_BLOCK_BYTES 16                             /* of a key, a block, a hash */
 #define RVGHASH_LIMIT_BYTES 1048576                        /* the most that A may have, and C */
@@ -67,6 +67,8 @@ enum rvghash_number {
                                       record: its length not 24, or SEW, LMUL or the answer over 255 */
     RVGHASH_BAD_PARKED = 15,       /* park: the buffer's length not 48; unpark: the record's length not 48, a spare
                                       byte not zero, or malformed */
+    RVGHASH_BAD_LINKS = 16,        /* links: the records' length no multiple of 32, or the results' length not the
+                                      number of records */
     RVGHASH_SHORT_TEXT = 22        /* listing: a text's buffer under 32 bytes */
 };
 
@@ -225,6 +227,23 @@ RVGHASH_MUST_USE
 uint32_t rvghash_ghash_fast(const uint8_t *key, size_t key_len, const uint8_t *a, size_t a_len, const uint8_t *c,
                             size_t c_len, uint8_t *out, size_t out_len);
 #define rvghash_ghash rvghash_ghash_fast
+
+/*
+ * A link, as it is checked here, is a record of 32 bytes: a claim block (16 bytes) and the hash that is expected for it
+ * (16). It agrees where GHASH of the claim block as A, with an empty C, is the expected hash. Keep records as the key is
+ * kept: a claim block and its right hash leave at most two keys that give it.
+ */
+enum { RVGHASH_LINK_BYTES = 32 };
+
+/*
+ * Checks many links under one key, in one call.
+ * Lent: key, 16 bytes, and records, one after the other, any number of them, only read; results, a byte for each record.
+ * Done (0): byte i of results is 1 if record i agrees, and else 0. With no records nothing is written.
+ * Refused (9; 16, records_len is no multiple of 32, or results_len is not records_len / 32): results is as before.
+ */
+RVGHASH_MUST_USE
+uint32_t rvghash_check_links(const uint8_t *key, size_t key_len, const uint8_t *records, size_t records_len,
+                             uint8_t *results, size_t results_len);
 
 /*
  * The step back: the partial hash Y with (Y xor block) * key = later.

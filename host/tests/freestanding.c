@@ -1,8 +1,10 @@
 /*
  * Links librvghash.a with -nostdlib: no C library, no start-up code, one memset of its own. The exit status is 0 if the word
- * vghsh.vv, the tail of its group and a running hash (document 01's K14), parked and read back, come out right.
+ * vghsh.vv, the tail of its group, a running hash (document 01's K14), parked and read back, and two links come out right.
  */
 #include "rvghash.h"
+
+static const uint8_t one[RVGHASH_BLOCK_BYTES] = {0x80};
 
 void *memset(void *to, int byte, size_t length)
 {
@@ -27,14 +29,22 @@ static int vector_word(void)
 static int running_hash(void)
 {
     struct rvghash_running running;
-    uint8_t key[16], c[1] = {1}, record[RVGHASH_PARKED_BYTES], out[16];
-    memset(key, 0, sizeof key);
-    key[0] = 0x80;
+    uint8_t c[1] = {1}, record[RVGHASH_PARKED_BYTES], out[16];
     rvghash_running_new(&running);
-    return rvghash_feed_c(&running, key, 16, c, 1) == RVGHASH_DONE &&
+    return rvghash_feed_c(&running, one, 16, c, 1) == RVGHASH_DONE &&
            rvghash_park(&running, record, sizeof record) == RVGHASH_DONE &&
            rvghash_unpark(&running, record, sizeof record) == RVGHASH_DONE &&
-           rvghash_finish(&running, key, 16, out, 16) == RVGHASH_DONE && out[0] == 1 && out[15] == 8;
+           rvghash_finish(&running, one, 16, out, 16) == RVGHASH_DONE && out[0] == 1 && out[15] == 8;
+}
+
+/* Zeros as the claim block have the length block as hash: the first record agrees, and the second does not. */
+static int links(void)
+{
+    uint8_t records[2 * RVGHASH_LINK_BYTES], results[2];
+    memset(records, 0, sizeof records);
+    records[16 + 7] = 0x80;
+    return rvghash_check_links(one, 16, records, sizeof records, results, sizeof results) == RVGHASH_DONE &&
+           results[0] == 1 && results[1] == 0;
 }
 
 static void leave(long status)
@@ -55,5 +65,5 @@ __attribute__((force_align_arg_pointer))
 #endif
 void _start(void)
 {
-    leave(vector_word() && running_hash() ? 0 : 1);
+    leave(vector_word() && running_hash() && links() ? 0 : 1);
 }

@@ -245,6 +245,85 @@ static void parked_between(void)
            "a finished one is parked, its hash first");
 }
 
+/* Three links under the one block: the hash is the claim block xored with the length block, which is 0x80 in byte 7. */
+static void fill_links(uint8_t *records)
+{
+    for (uint8_t i = 0; i < 3; i++) {
+        uint8_t *claim = records + RVGHASH_LINK_BYTES * i, *hash = claim + RVGHASH_BLOCK_BYTES;
+        for (uint8_t k = 0; k < RVGHASH_BLOCK_BYTES; k++)
+            claim[k] = hash[k] = (uint8_t)(16 * (i + 1) + k);
+        hash[7] ^= 0x80;
+    }
+}
+
+/*
+ * Three links, but for a byte that is changed (-1: none), under the key of this first byte and zeros. The results must be these,
+ * over bytes that are no results, and the byte after them stays.
+ */
+static void links_are(uint8_t first, int change, const char *want, const char *what)
+{
+    uint8_t key[RVGHASH_BLOCK_BYTES] = {first}, records[3 * RVGHASH_LINK_BYTES], before[sizeof records], results[4];
+    memset(results, '#', sizeof results);
+    fill_links(records);
+    if (change >= 0)
+        records[change] ^= 1;
+    memcpy(before, records, sizeof records);
+    expect(rvghash_check_links(key, sizeof key, records, sizeof records, results, 3) == RVGHASH_DONE, what);
+    expect(memcmp(results, want, 3) == 0 && results[3] == '#', what);
+    expect(is_block(key, first, 0) && memcmp(records, before, sizeof records) == 0, "key and links are only read");
+}
+
+/* Each byte of each record changed, and other keys. */
+static void links(void)
+{
+    expect(RVGHASH_LINK_BYTES == 32 && RVGHASH_BAD_LINKS == 16, "a link is 32 bytes, and its number 16");
+    links_are(0x80, -1, "\1\1\1", "three links");
+    for (int i = 0; i < RVGHASH_LINK_BYTES; i++) {
+        links_are(0x80, i, "\0\1\1", "a changed byte in the first link");
+        links_are(0x80, RVGHASH_LINK_BYTES + i, "\1\0\1", "a changed byte in the second link");
+        links_are(0x80, 2 * RVGHASH_LINK_BYTES + i, "\1\1\0", "a changed byte in the third link");
+    }
+    links_are(0x81, -1, "\0\0\0", "three links under another key");
+    links_are(0, -1, "\0\0\0", "three links under the zero key");
+}
+
+/* What is refused, and no records at all: both leave the buffer. 9 comes before 16. */
+static void links_refused(void)
+{
+    uint8_t key[17] = {0x80}, records[3 * RVGHASH_LINK_BYTES + 1] = {0}, results[4], before[4];
+    const size_t length = 3 * RVGHASH_LINK_BYTES;
+    memset(results, '#', sizeof results);
+    memset(before, '#', sizeof before);
+    fill_links(records);
+    expect(rvghash_check_links(key, 15, records, length, results, 3) == RVGHASH_NOT_16_BYTES, "links under a key of 15 bytes");
+    expect(rvghash_check_links(key, 17, records, length, results, 3) == RVGHASH_NOT_16_BYTES, "links under a key of 17 bytes");
+    expect(rvghash_check_links(NULL, 0, records, length, results, 3) == RVGHASH_NOT_16_BYTES, "links under no key");
+    expect(rvghash_check_links(key, 16, records, length - 1, results, 3) == RVGHASH_BAD_LINKS, "a byte of the links missing");
+    expect(rvghash_check_links(key, 16, records, length + 1, results, 3) == RVGHASH_BAD_LINKS, "a byte after the links");
+    expect(rvghash_check_links(key, 16, records, length - 1, results, 2) == RVGHASH_BAD_LINKS, "two links and 31 bytes");
+    expect(rvghash_check_links(key, 16, records, length - 16, results, 2) == RVGHASH_BAD_LINKS, "two links and a claim block");
+    expect(rvghash_check_links(key, 16, records, length, results, 2) == RVGHASH_BAD_LINKS, "a result too few");
+    expect(rvghash_check_links(key, 16, records, length, results, 4) == RVGHASH_BAD_LINKS, "a result too many");
+    expect(rvghash_check_links(key, 16, records, length, NULL, 0) == RVGHASH_BAD_LINKS, "links and no results");
+    expect(rvghash_check_links(key, 16, NULL, 0, results, 1) == RVGHASH_BAD_LINKS, "a result and no links");
+    expect(rvghash_check_links(key, 15, records, length - 1, results, 2) == RVGHASH_NOT_16_BYTES, "9 comes before 16");
+    expect(rvghash_check_links(NULL, 0, NULL, 0, NULL, 0) == RVGHASH_NOT_16_BYTES, "no links under no key");
+    expect(rvghash_check_links(key, 16, records, 0, results, 0) == RVGHASH_DONE, "no links");
+    expect(rvghash_check_links(key, 16, NULL, 0, NULL, 0) == RVGHASH_DONE, "no links, and no memory for them");
+    expect(memcmp(results, before, sizeof results) == 0, "a refusal and no links leave the results");
+}
+
+/* The zero key: a link agrees where its hash is zero, whatever its claim block. */
+static void links_under_zero(void)
+{
+    uint8_t zero[RVGHASH_BLOCK_BYTES] = {0}, records[3 * RVGHASH_LINK_BYTES], results[3];
+    fill_links(records);
+    memset(records + 16, 0, 16);
+    memset(records + 2 * RVGHASH_LINK_BYTES + 16, 0, 16);
+    expect(rvghash_check_links(zero, sizeof zero, records, sizeof records, results, sizeof results) == RVGHASH_DONE &&
+               memcmp(results, "\1\0\1", 3) == 0, "zero hashes under the zero key");
+}
+
 /* VERSION is the file's content, given by the compiler's line. */
 static void version(void)
 {
@@ -529,6 +608,9 @@ int main(void)
     unpark();
     sides();
     parked_between();
+    links();
+    links_refused();
+    links_under_zero();
     vector();
     policies();
     words();

@@ -187,7 +187,8 @@ def kinds_of_library():
 def lengths_of_library(names):
     """The crates' constants of these names: RVGHASH_RECORD_BYTES is RECORD_BYTES."""
     sources = "".join(read(path) for path in sorted(glob.glob("crates/*/src/**/*.rt", recursive=True)))
-    values = [(name, re.findall(rf"^pub const {name.removeprefix('RVGHASH_')}: usize = (\d+);$", sources, re.M)) for name in names]
+    pattern = r"^(?:pub )?const {}: usize = (\d+);$"
+    values = [(name, re.findall(pattern.format(name.removeprefix("RVGHASH_")), sources, re.M)) for name in names]
     return [(name, ", ".join(found) or "nothing") for name, found in values]
 
 
@@ -202,7 +203,7 @@ def complaints(header):
     found += [text.format("README") for text in number_differences(header, enums[NUMBERS])]
     found += [text.format("crates/vector_kind") for text in differences(f"enum {KINDS}", enums[KINDS], kinds_of_library())]
     lengths = [(name, value) for name, value in enums.get(None, []) if name.endswith("_BYTES")]
-    theirs = lengths_of_library(["RVGHASH_RECORD_BYTES", "RVGHASH_PARKED_BYTES"])
+    theirs = lengths_of_library(["RVGHASH_RECORD_BYTES", "RVGHASH_LINK_BYTES", "RVGHASH_PARKED_BYTES"])
     found += [text.format("the crates") for text in differences("the lengths of records", lengths, theirs)]
     return found
 
@@ -243,7 +244,7 @@ WRONG = [
     ("a text to read that is not const", {"const uint8_t *text": "uint8_t *text"}),
     ("vs1 and vs2 exchanged", {"uint32_t *vs2, uint32_t *vs1": "uint32_t *vs1, uint32_t *vs2"}),
     ("a number 21", {"RVGHASH_SHORT_TEXT = 22 ": "RVGHASH_SHORT_TEXT = 21 "}),
-    ("a number 16", {"RVGHASH_BAD_PARKED = 15,": "RVGHASH_BAD_PARKED = 16,"}),
+    ("two numbers 16", {"RVGHASH_BAD_PARKED = 15,": "RVGHASH_BAD_PARKED = 16,"}),
     ("another meaning of number 15", {"unpark: the record's length not 48, ": ""}),
     ("a parked record of 47 bytes", {"RVGHASH_PARKED_BYTES = 48": "RVGHASH_PARKED_BYTES = 47"}),
     ("a running hash to park that is not const", {"rvghash_park(const struct": "rvghash_park(struct"}),
@@ -255,6 +256,17 @@ WRONG = [
     ("a parked record without its length", {"running, const uint8_t *record, size_t record_len": "running, const uint8_t *record"}),
     ("parking left out",
      {"RVGHASH_MUST_USE\nuint32_t rvghash_park(const struct rvghash_running *running, uint8_t *record, size_t record_len);": ""}),
+    ("a number 17", {"RVGHASH_BAD_LINKS = 16,": "RVGHASH_BAD_LINKS = 17,"}),
+    ("another meaning of number 16", {"the records' length no multiple of 32,": "the records' length no multiple of 16,"}),
+    ("a link of 31 bytes", {"RVGHASH_LINK_BYTES = 32": "RVGHASH_LINK_BYTES = 31"}),
+    ("links that are not const", {"const uint8_t *records": "uint8_t *records"}),
+    ("results that are const", {"uint8_t *results": "const uint8_t *results"}),
+    ("the links' length of 32 bits", {"size_t records_len": "uint32_t records_len"}),
+    ("results without their length", {"uint8_t *results, size_t results_len": "uint8_t *results"}),
+    ("links before their key",
+     {"rvghash_check_links(const uint8_t *key, size_t key_len, const uint8_t *records, size_t records_len":
+      "rvghash_check_links(const uint8_t *records, size_t records_len, const uint8_t *key, size_t key_len"}),
+    ("results of 32 bits", {"uint8_t *results": "uint32_t *results"}),
 ]
 
 

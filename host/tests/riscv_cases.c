@@ -74,6 +74,7 @@ static uint32_t answer_of(const struct call *c, void *const b[MAX_LENT])
     case FINISH_PLAIN: return rvghash_finish_plain(b[0], b[1], l[1], b[2], l[2]);
     case PARK: return rvghash_park(b[0], b[1], l[1]);
     case UNPARK: return rvghash_unpark(b[0], b[1], l[1]);
+    case CHECK_LINKS: return rvghash_check_links(b[0], l[0], b[1], l[1], b[2], l[2]);
     case ENCODE:
         return rvghash_encode((uint32_t)n[KIND], (uint32_t)n[VM], (uint32_t)n[VS2], (uint32_t)n[VS1], (uint32_t)n[VD],
                               b[0]);
@@ -156,6 +157,7 @@ int run(int argc, char **argv)
                  told(" step backs,", STEP_BACK, STEP_BACK, 1000) &
                  told(" calls on running hashes,", FEED_A, FINISH_PLAIN, 10000) &
                  told(" parked,", PARK, PARK, 5000) & told(" read back,", UNPARK, UNPARK, 5000) &
+                 told(" checks of links,", CHECK_LINKS, CHECK_LINKS, 2000) &
                  told(" calls on words and texts,", ENCODE, ASSEMBLE, 20000) &
                  told(" records,", PUT_RECORD, PUT_RECORD, 2000) & told(" replays", REPLAY, REPLAY, 1000);
     put(enough ? ", no difference\n" : ": too few\n");

@@ -27,6 +27,7 @@ enum function {
     EXECUTE_POLICIES,
     PARK,
     UNPARK,
+    CHECK_LINKS,
     FUNCTIONS
 };
 

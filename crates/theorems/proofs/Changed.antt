@@ -38,7 +38,7 @@ one-changed-block-shows-in-parts key ps qs ps′ qs′ k m e =
 
 -- ---- the bytes
 
-bytes-differ : (u v : ℕ) → u < 256 ^ 16 → v < 256 ^ 16 → blockBytes u ≡ blockBytes v → u ≡ v
+pub bytes-differ : (u v : ℕ) → u < 256 ^ 16 → v < 256 ^ 16 → blockBytes u ≡ blockBytes v → u ≡ v
 bytes-differ u v hu hv e =
     sym (mod-eq-of-lt hu) ∙ sym (beAt-beBytes 16 u) ∙ ap (λ (s : List ℕ). beAt s 0 16) e ∙ beAt-beBytes 16 v ∙ mod-eq-of-lt hv
 

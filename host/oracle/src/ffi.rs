@@ -61,6 +61,9 @@ extern "C" {
         key: *const u8, key_len: usize, a: *const u8, a_len: usize, c: *const u8, c_len: usize,
         out: *mut u8, out_len: usize,
     ) -> u32;
+    pub fn rvghash_check_links(
+        key: *const u8, key_len: usize, records: *const u8, records_len: usize, results: *mut u8, results_len: usize,
+    ) -> u32;
     pub fn rvghash_step_back(
         key: *const u8, key_len: usize, block: *const u8, block_len: usize, later: *const u8, later_len: usize,
         out: *mut u8, out_len: usize,

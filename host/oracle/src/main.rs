@@ -1,4 +1,4 @@
-//! An independent oracle for librvghash.a: a model of document 01, and of document 02's Asks 1 and 3 to 6, by other
+//! An independent oracle for librvghash.a: a model of document 01, and of document 02's Asks 1 and 3 to 7, by other
 //! methods. It is compared with the library on random input and at the limits.
 //!
 //! RVGHASH_LIB_DIR=folder-of-the-archive cargo run --release -- [--seed N] [--factor K] [--self-check | --write-cases FILE]

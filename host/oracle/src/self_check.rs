@@ -1,7 +1,8 @@
 //! The model against the papers themselves, without the library: the marked cases, the example words and their texts,
-//! the overlap that is reserved, fills, records and parked running hashes by hand, published GHASH values, and each of
-//! the model's methods against another one.
+//! the overlap that is reserved, fills, records, parked running hashes and links by hand, published GHASH values, and
+//! each of the model's methods against another one.
 
+mod links;
 mod parked;
 mod policies;
 mod traces;
@@ -34,6 +35,7 @@ pub fn run(seed: u64) -> bool {
     checks.push(("the inverse by power against the linear system", inverses(&mut rng)));
     checks.push(("the bytes fed against the transition on fields", running_agrees(&mut rng)));
     checks.extend(parked::checks(&mut rng));
+    checks.extend(links::checks(&mut rng));
     let failed: Vec<_> = checks.iter().filter(|(_, holds)| !holds).collect();
     for (name, _) in &failed {
         println!("self-check: {name}: FAILED");
@@ -139,6 +141,11 @@ fn published() -> Vec<Check> {
 fn hex(text: &str) -> Vec<u8> {
     let byte = |i| u8::from_str_radix(&text[i..i + 2], 16).expect("two hexadecimal digits");
     (0..text.len()).step_by(2).map(byte).collect()
+}
+
+/// The bytes of a record whose parts are spelled with a space between them.
+fn spelled(record: &str) -> Vec<u8> {
+    hex(&record.replace(' ', ""))
 }
 
 /// A word is of a kind exactly when its fields are those of the kind's row.

@@ -28,6 +28,13 @@ fn sparse(rng: &mut Rng) -> Block {
     block
 }
 
+/// These bytes with one bit changed: bit k mod 8 of byte k div 8.
+pub fn with_bit(bytes: &[u8], k: usize) -> Vec<u8> {
+    let mut changed = bytes.to_vec();
+    changed[k / 8] ^= 1 << (k % 8);
+    changed
+}
+
 /// A length that is not 16.
 pub fn odd_length(rng: &mut Rng) -> usize {
     match rng.below(8) {

@@ -7,6 +7,7 @@ mod group;
 mod hash;
 mod inputs;
 mod limit;
+mod links;
 mod parked;
 mod past_32_bits;
 mod policies;
@@ -35,6 +36,7 @@ pub fn run(run: &Run) {
     running::run(run);
     limit::run(run);
     parked::run(run);
+    links::run(run);
     step_back::run(run);
     degree::run(run);
     words::run(run);

@@ -2,7 +2,7 @@
 //! buffers and records of every length, with each bit changed, and at random.
 
 use super::hash::cut;
-use super::inputs::{block, part_length};
+use super::inputs::{block, part_length, with_bit};
 use super::limit::to_the_limit;
 use super::running::{any_state, from_memory, open_bytes, to_memory, well_formed, Memory as RunningMemory, Shown};
 use super::running::{Step, Which};
@@ -221,13 +221,8 @@ fn bits(run: &Run, memory: &mut Memory) {
         let state = well_formed(&mut rng, index as u8 % 3);
         let (bytes, record) = (to_memory(&state), record_of(&state));
         for bit in 0..8 * PARKED {
-            let with_bit = |bytes: &[u8]| {
-                let mut changed = bytes.to_vec();
-                changed[bit / 8] ^= 1 << (bit % 8);
-                changed
-            };
-            memory.park(&mut group, &mut rng, &from_memory(&with_bit(&bytes)), PARKED);
-            memory.unpark(&mut group, &mut rng, &with_bit(&record));
+            memory.park(&mut group, &mut rng, &from_memory(&with_bit(&bytes, bit)), PARKED);
+            memory.unpark(&mut group, &mut rng, &with_bit(&record, bit));
         }
         let mut changed = record;
         let spare = PARKED - 1 - index as usize % ZEROS;

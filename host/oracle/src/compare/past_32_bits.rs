@@ -4,12 +4,13 @@
 use super::group::{lend_number, number_in};
 use super::inputs::out_after;
 use super::running::{from_memory, to_memory, well_formed, Shown};
-use crate::ffi::{rvghash_assemble, rvghash_degree, rvghash_disassemble, rvghash_execute, rvghash_execute_policies};
-use crate::ffi::{rvghash_park, rvghash_put_record, rvghash_replay, rvghash_step_back, rvghash_unpark, Running};
-use crate::ffi::{PATHS, RUNNING_SIZE};
+use crate::ffi::{rvghash_assemble, rvghash_check_links, rvghash_degree, rvghash_disassemble, rvghash_execute};
+use crate::ffi::{rvghash_execute_policies, rvghash_park, rvghash_put_record, rvghash_replay, rvghash_step_back};
+use crate::ffi::{rvghash_unpark, Running, PATHS, RUNNING_SIZE};
 use crate::lent::{huge, huge_with_pages, strays, Lent};
 use crate::model::field::{Block, ZERO};
 use crate::model::hash::LIMIT;
+use crate::model::links::LINK;
 use crate::model::parked::{record_of, PARKED};
 use crate::model::record::RECORD;
 use crate::model::replay::DIFFERS;
@@ -38,13 +39,14 @@ pub fn run(run: &Run) {
     parts(&mut group, &mut rng, zeros);
     pieces(&mut group, &mut rng, zeros);
     parked(&mut group, &mut rng, front);
+    links(&mut group, &mut rng, zeros, front);
     listings(&mut group, &mut rng, front);
     texts(&mut group, &mut rng, front);
     records(&mut group, &mut rng, front);
     torn_traces(&mut group, &mut rng, trace);
     whole_traces(&mut group, &mut rng, trace);
     replay_file(&mut group, &mut rng, zeros);
-    group.end(&[0, 1, 2, 9, 11, 14, 15, DIFFERS]);
+    group.end(&[0, 1, 2, 9, 11, 14, 15, 16, DIFFERS]);
 }
 
 /// A file length that is right once cut to 32 bits, without policies and with both.
@@ -168,6 +170,30 @@ fn parked(group: &mut Group, rng: &mut Rng, front: *mut u8) {
             let answer = unsafe { rvghash_unpark(pointer, front, record_len) };
             Seen { answer, left: Shown(from_memory(running.content())), stray: strays(&[&running]) }
         });
+    }
+}
+
+/// Lengths that are right once cut to 32 bits, and a number of results whose product with 32 is. The records are zeros,
+/// which agree under the zero key.
+fn links(group: &mut Group, rng: &mut Rng, zeros: &[u8], front: *mut u8) {
+    let z = zeros.as_ptr();
+    for count in 0..=2 {
+        for (key_len, records_len, results_len, refusal) in [
+            (PAST + 16, LINK * count, count, 9),
+            (PAST + 16, PAST + LINK * count, count, 9),
+            (16, PAST + LINK * count, count, 16),
+            (16, LINK * count, PAST + count, 16),
+            (16, LINK * count, PAST / LINK + count, 16),
+        ] {
+            let before = rng.bytes(FRONT);
+            put(front, &before);
+            let inputs = ("rvghash_check_links", key_len, records_len, results_len);
+            group.compare(&inputs, Seen::expected(refusal, Bytes(before)), || {
+                // SAFETY: so many bytes can be read; the call must refuse them.
+                let answer = unsafe { rvghash_check_links(z, key_len, z, records_len, front, results_len) };
+                Seen::expected(answer, Bytes(content(front)))
+            });
+        }
     }
 }
 

@@ -4,6 +4,7 @@
 use super::execute_inputs::{any, any_with_policies, keys_at_group, single_bits, under_policies, Case};
 use super::hash::cut;
 use super::inputs::{block, out_after, out_before, part_length, perhaps_odd};
+use super::links::any_links;
 use super::parked::{any_parking, any_record};
 use super::record::any_put;
 use super::running::{any_state, any_step, to_memory, Step, Which};
@@ -15,6 +16,7 @@ use crate::ffi::{Path, PATHS, RUNNING_SIZE};
 use crate::model::execute::{execute, Policies};
 use crate::model::field::{Block, ZERO};
 use crate::model::hash::ghash_call;
+use crate::model::links::check_links_call;
 use crate::model::parked::{park_call, unpark_call, PARKED};
 use crate::model::record::put_record_call;
 use crate::model::replay::replay_call;
@@ -43,6 +45,7 @@ enum Function {
     ExecutePolicies,
     Park,
     Unpark,
+    CheckLinks,
 }
 
 impl Function {
@@ -64,6 +67,7 @@ impl Function {
             Function::ExecutePolicies => 16,
             Function::Park => 17,
             Function::Unpark => 18,
+            Function::CheckLinks => 19,
         }
     }
 }
@@ -216,6 +220,12 @@ impl Cases {
         self.call(Function::Unpark, answer, &[], &[lent(8, &before, &after), read(&Bytes(record))])
     }
 
+    fn links(&mut self, rng: &mut Rng) -> Result<()> {
+        let l = any_links(rng, 40);
+        let (answer, after) = check_links_call(&l.key.0, &l.records.0, &l.before.0);
+        self.call(Function::CheckLinks, answer, &[], &[read(&l.key), read(&l.records), lent(1, &l.before.0, &after)])
+    }
+
     fn written_word(&mut self, rng: &mut Rng) -> Result<()> {
         let f = any_fields(rng);
         let (answer, word) = encode_call(&f);
@@ -276,13 +286,14 @@ impl Cases {
 pub fn write(run: &Run, path: &str) -> Result<()> {
     let mut cases = Cases { out: BufWriter::new(File::create(path)?) };
     cases.out.write_all(b"rvghash cases 2\n")?;
-    let groups: [(&str, u64, fn(&mut Cases, &mut Rng) -> Result<()>); 12] = [
+    let groups: [(&str, u64, fn(&mut Cases, &mut Rng) -> Result<()>); 13] = [
         ("executions", 24_000, Cases::any_execution),
         ("executions with policies", 12_000, Cases::any_execution_with_policies),
         ("step backs", 1_200, Cases::step_back),
         ("messages, whole and in pieces", 600, Cases::message),
         ("running hashes, any fields", 10_000, Cases::any_running),
         ("running hashes parked, and records read, any fields", 4_000, Cases::any_parked),
+        ("links, up to 40 in a call", 2_500, Cases::links),
         ("words written", 4_000, Cases::written_word),
         ("words decoded", 4_000, Cases::decoded_word),
         ("words listed", 6_000, Cases::listed_word),

@@ -1,4 +1,4 @@
-//! The independent model: document 01, and document 02's Asks 1 and 3 to 6, put into code by other methods than the
+//! The independent model: document 01, and document 02's Asks 1 and 3 to 7, put into code by other methods than the
 //! library's.
 
 pub mod execute;
@@ -6,6 +6,7 @@ pub mod field;
 pub mod group;
 pub mod hash;
 pub mod linear;
+pub mod links;
 pub mod parked;
 pub mod poly;
 pub mod record;

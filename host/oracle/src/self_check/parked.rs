@@ -1,7 +1,7 @@
 //! Parking and reading back, on records that were put together by hand from document 02's Ask 6 and from document 01's
 //! words on malformed fields, and by laws.
 
-use super::{hex, Check};
+use super::{spelled, Check};
 use crate::model::field::ZERO;
 use crate::model::hash::LIMIT;
 use crate::model::parked::{park_call, unpark_call, PARKED};
@@ -40,10 +40,6 @@ const KNOWN: [Known; 4] = [
     }),
     ("00000000000000000000000000000000 00000000000000000000000000000000 00000000 00000000 00 00000000000000", FRESH),
 ];
-
-fn spelled(record: &str) -> Vec<u8> {
-    hex(&record.replace(' ', ""))
-}
 
 /// In bytes of every length up to two records, and with other spare bytes in the struct.
 fn known((text, state): &Known) -> bool {

@@ -1,6 +1,6 @@
 //! Records and replay, on records that were put together by hand from document 02's Asks 3 and 5, and by laws.
 
-use super::{hex, Check};
+use super::{spelled, Check};
 use crate::model::execute::{Policies, POLICIES, UNDISTURBED};
 use crate::model::record::{put_record_call, Record, RECORD};
 use crate::model::replay::{replay_call, Replayed};
@@ -42,11 +42,6 @@ fn policies_of(byte: u8) -> Option<Policies> {
         3 => policies(true, true),
         _ => None,
     }
-}
-
-/// The bytes of a record whose parts are spelled with a space between them.
-fn spelled(record: &str) -> Vec<u8> {
-    hex(&record.replace(' ', ""))
 }
 
 /// Each of them, in bytes of every length up to two records, and with each policy byte.
