@@ -32,6 +32,18 @@ static double aes_batch(const void *what, long calls)
     return c->peer->remote ? remote_aes_batch(calls) : time_aes(c->peer->aes, c->inputs, calls);
 }
 
+static double links_batch(const void *what, long calls)
+{
+    const struct checker *c = what;
+    return c->check ? time_links(c->check, &plan.links, calls) : remote_links_batch(calls);
+}
+
+static double links_aes_batch(const void *what, long calls)
+{
+    (void)what;
+    return remote_links_aes_batch(calls);
+}
+
 static void fail(const char *what, const char *name)
 {
     fprintf(stderr, "bench: %s: %s\n", name, what);
@@ -91,6 +103,12 @@ static void check_trace(int trace)
         differs("the loop in C differs from the calls that made the trace", trace_name(trace));
 }
 
+static void check_links(const struct checker *c)
+{
+    if (!(c->check ? links_agree(c->check, &plan.links) : remote_links_agree()))
+        differs("its results differ from document 01's rules in plain C", c->name);
+}
+
 static void check_all(void)
 {
     for (int p = 0; p < PEERS; p++)
@@ -103,6 +121,9 @@ static void check_all(void)
         differs("differ from document 01's rules in plain C", "the products or the step back");
     for (int t = 0; t < TRACES; t++)
         check_trace(t);
+    for (int i = 0; i < CHECKERS; i++)
+        if (!peers[checkers[i].peer].missing)
+            check_links(&checkers[i]);
     if (wrong)
         exit(1);
     fprintf(stderr, "bench: all results agree\n");
@@ -132,9 +153,10 @@ static void make_inputs(void)
     triples_make(&plan.triples, &seed);
     for (int t = 0; t < TRACES; t++)
         trace_make(&plan.traces[t], t, (size_t)plan.records, &seed);
+    links_make(&plan.links, &plan.inputs.keys[0]);
 }
 
-static struct item *list[PEERS * (LENGTHS + 1) + 2 * WORDS * CASES + 6 + 2 * TRACES];
+static struct item *list[PEERS * (LENGTHS + 1) + 2 * WORDS * CASES + 6 + 2 * TRACES + CHECKERS + 1];
 static int listed;
 
 static void add(struct item *item, double (*batch)(const void *what, long calls), const void *what)
@@ -181,6 +203,11 @@ static void add_all(void)
         add(&plan.replay[t], replay_batch, &plan.traces[t]);
         add(&plan.loop[t], loop_batch, &plan.traces[t]);
     }
+    for (int i = 0; i < CHECKERS; i++)
+        if (!peers[checkers[i].peer].missing)
+            add(&plan.checker[i], links_batch, &checkers[i]);
+    if (plan.checker[OPENSSL_LINKS].batch)
+        add(&plan.links_aes, links_aes_batch, NULL);
 }
 
 static const char *options(int argc, char **argv)

@@ -42,14 +42,20 @@ static void demand(int done)
     exit(1);
 }
 
-void openssl_hash(const struct key *key, const struct message *m, uint8_t out[16])
+/* Where aes is NULL the key stays. */
+static void tag(const uint8_t *aes, const uint8_t *a, size_t length, uint8_t out[16])
 {
     static const uint8_t iv[12];
     int n;
-    demand(EVP_EncryptInit_ex(gcm, NULL, NULL, key->aes, iv) == 1);
-    demand(EVP_EncryptUpdate(gcm, NULL, &n, m->bytes, (int)m->length) == 1);
+    demand(EVP_EncryptInit_ex(gcm, NULL, NULL, aes, iv) == 1);
+    demand(EVP_EncryptUpdate(gcm, NULL, &n, a, (int)length) == 1);
     demand(EVP_EncryptFinal_ex(gcm, out, &n) == 1);
     demand(EVP_CIPHER_CTX_ctrl(gcm, EVP_CTRL_GCM_GET_TAG, 16, out) == 1);
+}
+
+void openssl_hash(const struct key *key, const struct message *m, uint8_t out[16])
+{
+    tag(key->aes, m->bytes, m->length, out);
 }
 
 void openssl_aes(const struct key *key, uint8_t out[32])
@@ -58,4 +64,29 @@ void openssl_aes(const struct key *key, uint8_t out[32])
     int n;
     demand(EVP_EncryptInit_ex(ecb, NULL, NULL, key->aes, NULL) == 1);
     demand(EVP_EncryptUpdate(ecb, out, &n, blocks, 32) == 1);
+}
+
+/* The tag under the key that is set, without its mask. */
+static void claim_hash(const struct key *key, const uint8_t claim[16], uint8_t out[16])
+{
+    tag(NULL, claim, 16, out);
+    for (int i = 0; i < 16; i++)
+        out[i] ^= key->mask[i];
+}
+
+void openssl_links(const struct links *l, uint8_t results[LINKS])
+{
+    demand(EVP_EncryptInit_ex(gcm, NULL, NULL, l->key.aes, NULL) == 1);
+    check_each(claim_hash, l, results);
+}
+
+void openssl_links_aes(const struct links *l, uint8_t results[LINKS])
+{
+    static const uint8_t counter[16] = {[15] = 1};
+    uint8_t out[16];
+    int n;
+    (void)results;
+    demand(EVP_EncryptInit_ex(ecb, NULL, NULL, l->key.aes, NULL) == 1);
+    for (size_t i = 0; i < LINKS; i++)
+        demand(EVP_EncryptUpdate(ecb, out, &n, counter, 16) == 1);
 }

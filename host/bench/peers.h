@@ -6,6 +6,7 @@
 
 #include "found.h" /* written by run: HAVE_BEARSSL, HAVE_LIBGCRYPT, HAVE_OPENSSL, each the package's version */
 #include "inputs.h"
+#include "links.h"
 
 enum {
     FAST,
@@ -59,6 +60,8 @@ const char *openssl_start(void);
 const char *openssl_version(void);
 hash_function openssl_hash;
 aes_function openssl_aes;
+/* All links, with the key set once; and the AES work in that alone (key schedule, then a block for each link). */
+links_function openssl_links, openssl_links_aes;
 /* Whether OpenSSL will use PCLMULQDQ: 1, 0, or -1 where there is no such question (not an x86 processor). */
 int openssl_pclmulqdq(void);
 

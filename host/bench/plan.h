@@ -7,6 +7,7 @@
 #include <stdio.h>
 
 #include "inputs.h"
+#include "links.h"
 #include "measure.h"
 #include "peers.h"
 #include "products.h"
@@ -33,6 +34,8 @@ struct plan {
     struct item fast_product, plain_product, c_product, step_back, c_clmul;
     struct trace traces[TRACES];
     struct item replay[TRACES], loop[TRACES];
+    struct links links;
+    struct item checker[CHECKERS], links_aes;
 };
 
 /* The tables, as Markdown. */

@@ -12,7 +12,7 @@
 
 #include "peers.h"
 
-enum ask { ASK_MASKED, ASK_HASH, ASK_HASH_BATCH, ASK_AES_BATCH };
+enum ask { ASK_MASKED, ASK_HASH, ASK_HASH_BATCH, ASK_AES_BATCH, ASK_LINKS, ASK_LINKS_BATCH, ASK_LINKS_AES_BATCH };
 
 struct request {
     enum ask ask;
@@ -21,7 +21,7 @@ struct request {
 };
 
 struct answer {
-    int masked;
+    int yes;
     double ns;
     uint8_t hash[16];
 };
@@ -79,7 +79,7 @@ const char *remote_start(const char *program)
     close(up[1]);
     to_copy = down[1];
     from_copy = up[0];
-    return ask((struct request){ASK_MASKED, 0, 0, 0}).masked ? NULL : "OPENSSL_ia32cap had no effect";
+    return ask((struct request){ASK_MASKED, 0, 0, 0}).yes ? NULL : "OPENSSL_ia32cap had no effect";
 }
 
 void remote_hash(int key, int length, uint8_t out[16])
@@ -91,24 +91,37 @@ double remote_hash_batch(int length, long calls) { return ask((struct request){A
 
 double remote_aes_batch(long calls) { return ask((struct request){ASK_AES_BATCH, 0, 0, calls}).ns; }
 
+int remote_links_agree(void) { return ask((struct request){ASK_LINKS, 0, 0, 0}).yes; }
+
+double remote_links_batch(long calls) { return ask((struct request){ASK_LINKS_BATCH, 0, 0, calls}).ns; }
+
+double remote_links_aes_batch(long calls) { return ask((struct request){ASK_LINKS_AES_BATCH, 0, 0, calls}).ns; }
+
 #ifdef HAVE_OPENSSL
+static struct links links;
+
 static struct answer answer_of(const struct inputs *inputs, struct request r)
 {
     struct answer a = {0, 0, {0}};
     switch (r.ask) {
-    case ASK_MASKED: a.masked = openssl_pclmulqdq() == 0; break;
+    case ASK_MASKED: a.yes = openssl_pclmulqdq() == 0; break;
     case ASK_HASH: openssl_hash(&inputs->keys[r.key], &inputs->messages[r.length], a.hash); break;
     case ASK_HASH_BATCH: a.ns = time_hashes(openssl_hash, inputs, r.length, r.calls); break;
     case ASK_AES_BATCH: a.ns = time_aes(openssl_aes, inputs, r.calls); break;
+    case ASK_LINKS: a.yes = links_agree(openssl_links, &links); break;
+    case ASK_LINKS_BATCH: a.ns = time_links(openssl_links, &links, r.calls); break;
+    case ASK_LINKS_AES_BATCH: a.ns = time_links(openssl_links_aes, &links, r.calls); break;
     }
     return a;
 }
 
-int remote_serve(const struct inputs *inputs)
+int remote_serve(struct inputs *inputs)
 {
     struct request request;
     if (openssl_start())
         return 1;
+    inputs_keys(inputs, openssl_aes);
+    links_make(&links, &inputs->keys[0]);
     while (read_all(0, &request, sizeof request)) {
         struct answer answer = answer_of(inputs, request);
         if (!write_all(1, &answer, sizeof answer))
@@ -117,7 +130,7 @@ int remote_serve(const struct inputs *inputs)
     return 0;
 }
 #else
-int remote_serve(const struct inputs *inputs)
+int remote_serve(struct inputs *inputs)
 {
     (void)inputs;
     return 1;

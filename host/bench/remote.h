@@ -23,7 +23,14 @@ void remote_hash(int key, int length, uint8_t out[16]);
 double remote_hash_batch(int length, long calls);
 double remote_aes_batch(long calls);
 
+/* Whether its results for the links of the first key are the expected ones. */
+int remote_links_agree(void);
+
+/* The processor time of so many times all these links, or of so many times the AES part. */
+double remote_links_batch(long calls);
+double remote_links_aes_batch(long calls);
+
 /* The copy's own part: answers until its input ends. */
-int remote_serve(const struct inputs *inputs);
+int remote_serve(struct inputs *inputs);
 
 #endif

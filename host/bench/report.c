@@ -67,6 +67,19 @@ static struct ratio element_over_c(const struct plan *plan, const struct item *w
     return (struct ratio){r.low / parts, r.median / parts, r.high / parts};
 }
 
+/* What is taken off a checker's times. */
+static const struct item *links_less(const struct plan *plan, int checker)
+{
+    return checker == OPENSSL_LINKS ? &plan->links_aes : NULL;
+}
+
+/* How many times as fast as the checker rvghash_check_links is. */
+static struct ratio links_speedup(const struct plan *plan, int checker)
+{
+    return item_ratio(&plan->checker[checker], links_less(plan, checker), &plan->checker[CHECK_LINKS], NULL,
+                      plan->rounds);
+}
+
 static void report_how(const struct plan *plan)
 {
     printf("Each figure is the median of %d rounds in one run. A round times every entry once, in a batch of about "
@@ -114,6 +127,8 @@ static void report_targets(const struct plan *plan)
            element_over_c(plan, &plan->word[VCLMUL_VV][WIDEST]));
     target("vclmulh.vv, SEW 64, VLEN 512, LMUL 8: time of an element over plain C's loop with masks", AT_MOST, 0.55,
            element_over_c(plan, &plan->word[VCLMULH_VV][WIDEST]));
+    target("10,000 links under one key: speed over one rvghash_ghash_fast call a record", AT_LEAST, 2.2,
+           links_speedup(plan, FAST_LINKS));
 }
 
 static void report_peer(const struct plan *plan, int peer)
@@ -242,6 +257,35 @@ static void report_replay(const struct plan *plan)
         replay_row(plan, t);
 }
 
+static void links_row(const struct plan *plan, int checker)
+{
+    const struct checker *c = &checkers[checker];
+    printf("| %s |", c->name);
+    if (peers[c->peer].missing) {
+        printf(" not measured: %s | | | |\n", peers[c->peer].missing);
+        return;
+    }
+    struct summary t = item_time(&plan->checker[checker], links_less(plan, checker), plan->rounds);
+    struct ratio r = links_speedup(plan, checker);
+    cell(LINKS * 1e3 / t.median);
+    printf(" %.1f %% | %.2f | %.2f to %.2f |\n", 100 * t.spread, r.median, r.low, r.high);
+}
+
+static void report_links(const struct plan *plan)
+{
+    printf("\n## Many links in one call\n\n"
+           "%d records under one key, each a claim block and the hash that is expected for it; half of them agree, and "
+           "each of\nthe others has one bit wrong. One call of `rvghash_check_links` over all of them, beside loops in C "
+           "that hash one claim\nblock after the other and compare. Before the first round the results of all were "
+           "compared with those by document 01's\nrules in plain C. \"One call\" is how many times as fast as the row "
+           "it is.\n\n"
+           "| | million records/s | spread | one call | quartiles |\n"
+           "|---|--:|--:|--:|---|\n",
+           LINKS);
+    for (int i = 0; i < CHECKERS; i++)
+        links_row(plan, i);
+}
+
 static void earlier_row(const struct plan *plan, int word, int number)
 {
     const struct item *now = &plan->word[word][number], *earlier = &plan->earlier[word][number];
@@ -280,6 +324,17 @@ static void report_aes(const struct plan *plan, int peer)
            100 * aes / time_of(plan, &plan->hash[peer][LONG]));
 }
 
+static void report_links_aes(const struct plan *plan)
+{
+    if (peers[OPENSSL_WITHOUT].missing)
+        return;
+    double aes = time_of(plan, &plan->links_aes) / LINKS, all = time_of(plan, &plan->checker[OPENSSL_LINKS]) / LINKS;
+    printf("- %s: the AES part taken off is %.1f ns, %.1f %% of a record's time. Two\n  products at the speed of "
+           "1 MiB would be %.0f of the %.0f ns that are left.\n",
+           checkers[OPENSSL_LINKS].name, aes, 100 * aes / all,
+           32 / MIB * 1e9 / throughput(plan, OPENSSL_WITHOUT, LONG), all - aes);
+}
+
 static void report_notes(const struct plan *plan)
 {
     printf("\n## How to read the peers\n\n"
@@ -297,6 +352,11 @@ static void report_notes(const struct plan *plan)
     report_aes(plan, LIBGCRYPT);
     report_aes(plan, OPENSSL_WITHOUT);
     report_aes(plan, OPENSSL_WITH);
+    printf("- Links: `br_ghash_ctmul64` takes the key with each record, and has no tables to keep. OpenSSL makes its key "
+           "schedule\n  and tables once. For each record it is given an IV, the same one for all, and the claim block, "
+           "and gives the tag,\n  from which an xor takes the mask. The AES block in that is timed alone, in a call for "
+           "each, and taken off. What is\n  left still holds the library's own calls around its two products.\n");
+    report_links_aes(plan);
     printf("- Plain C is document 01's bit-by-bit rule with masks for its conditions, by the same compiler.\n");
 }
 
@@ -312,6 +372,7 @@ void report(const struct plan *plan)
     report_products(plan);
     report_carryless(plan);
     report_replay(plan);
+    report_links(plan);
     report_earlier(plan);
     report_notes(plan);
 }
