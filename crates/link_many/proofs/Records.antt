@@ -2,7 +2,7 @@
 -- lengths of a call that is done (`lengths-done`). Assumes nothing.
 use mathlib.Core.Bool.{Bool, true, false, cond, not, _||_}
 use mathlib.Core.Path.{_≡_, refl, sym, ap, ap₂, _∙_}
-use mathlib.Core.List.{List, [], _∷_, map}
+use mathlib.Core.List.{List, map}
 use Prim.Native.Nat.{ℕ, zero, suc, _+_, _*_, _/_, _%_, _^_, _≤_, _<_}
 use native.Mathlib.Nat.{add-zero, zero-add, add-assoc, le-of-suc-le-suc, not-suc-le-zero, suc-ne-zero}
 use native.Mathlib.Omega.{arith}
@@ -16,7 +16,7 @@ use Rattle.octets.proofs.BigEndian.{be-same}
 use Rattle.gf128.specs.Bytes.{blockAt}
 use Rattle.gf128.specs.Field.{product}
 use Rattle.gf128.specs.Hash.{lengthBlock}
-use Rattle.link_many.specs.Links.{claimOf, expectedOf, agrees, answer, recordAt, recordsFrom, answers, linksRefusal}
+use Rattle.link_many.specs.Links.{claimOf, agrees, answer, recordAt, recordsFrom, answers, linksRefusal}
 use Rattle.link_many.proofs.Hashes.{hash-by-square}
 
 -- ---- one record
@@ -27,12 +27,15 @@ part n m s at k h =
     be-same m (take n (drop at s)) s k (at + k) (λ j l.
     getD-take n (drop at s) (k + j) 0 (omega arith) ∙ getD-drop at s (k + j) 0 ∙ ap (λ (i : ℕ). getD s i 0) (sym (add-assoc at k j)))
 
+pub length-part : (n at : ℕ) (s : List ℕ) → at + n ≤ length s → length (take n (drop at s)) ≡ n
+length-part n at s h = let l = length-drop at s in length-take-le n (drop at s) (omega arith)
+
 module _ (s : List ℕ) (at : ℕ) (inside : at + 32 ≤ length s) where
   claim : claimOf (recordAt s at) ≡ take 16 (drop at s)
   claim = take-take 16 32 (drop at s) (lit≤ tt)
 
-  length-claim : length (claimOf (recordAt s at)) ≡ 16
-  length-claim = let l = length-drop at s in ap length claim ∙ length-take-le 16 (drop at s) (omega arith)
+  pub length-claim : length (claimOf (recordAt s at)) ≡ 16
+  length-claim = ap length claim ∙ length-part 16 at s (omega arith)
 
   claim-block : blockAt (claimOf (recordAt s at)) 0 ≡ blockAt s at
   claim-block = ap (λ (r : List ℕ). blockAt r 0) claim ∙ part 16 16 s at 0 (lit≤ tt) ∙ ap (blockAt s) (add-zero at)

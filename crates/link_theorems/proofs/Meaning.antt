@@ -1,30 +1,29 @@
 -- The answers on links by one hash each (`one-hash-each`), and at most one 1 where the expected hash is the same (`at-most-one`); which
 -- records these speak of (`any-records`). Assumes nothing.
-use mathlib.Core.Bool.{Bool, true, false, cond, not, _||_, false≢true}
+use mathlib.Core.Bool.{Bool, true, false, cond}
 use mathlib.Core.List.{List, [], _∷_, _++_}
 use mathlib.Core.Logic.{_≢_}
 use mathlib.Core.Path.{_≡_, refl, sym, ap, ap₂, _∙_, subst₂}
-use Prim.Native.Nat.{ℕ, zero, suc, _+_, _*_, _/_, _%_, _^_, _≤_, _<_}
+use Prim.Native.Nat.{ℕ, zero, suc, _+_, _*_, _/_, _%_, _≤_, _<_}
 use native.Mathlib.Nat.{suc-ne-zero, zero-lt-suc, le-of-eq, not-suc-le-zero}
 use native.Mathlib.Omega.{arith}
-use borrow.Author.Tests.{eq-eqb, eqb-true, le-ltb}
-use lib.Dec.{eqb, lit≤}
-use lib.ListN.{length, getD, take, drop, length-drop}
-use lib.Seq.{getD-take, getD-drop, length-take-le, take-all}
+use borrow.Author.Tests.{eq-eqb, eqb-true}
+use lib.Dec.{lit≤}
+use lib.ListN.{length, take, drop, length-drop}
+use lib.Seq.{getD-take, getD-drop, take-all}
 use Rattle.octets.specs.Bytes.{AreBytes}
 use Rattle.octets.proofs.BigEndian.{bytes-inside, beAt-lt, beBytes-read}
 use Rattle.gf128.specs.Bytes.{blockAt, blockBytes}
 use Rattle.gf128.specs.Differ.{DifferOnce}
 use Rattle.gf128.specs.Entries.{hashBlock, hashOut}
-use Rattle.gf128.specs.Hash.{over, blocksOf, lengthBlock, ghash, limit}
-use Rattle.gf128.proofs.Hash.{blocksOf-empty, ghash-parts}
-use Rattle.gf128.proofs.Next.{next-lt}
-use Rattle.link_many.specs.Links.{claimOf, expectedOf, agrees, answer, linksRefusal, linksNumber, linksResults}
+use Rattle.gf128.specs.Hash.{blocksOf, ghash}
+use Rattle.gf128.proofs.Hash.{blocksOf-empty}
+use Rattle.link_many.specs.Links.{claimOf, expectedOf, agrees, answer, linksNumber}
 use Rattle.link_many.proofs.Hashes.{one-block}
-use Rattle.link_many.proofs.Records.{lengths-done, answer-at}
+use Rattle.link_many.proofs.Records.{length-part, length-claim, lengths-done, answer-at}
 use Rattle.link_theorems.specs.Meaning.{Checked, linkOf, resultOf, OneHashEach, AtMostOne, AnyRecords}
-use Rattle.theorems.specs.Changed.{OneBlockChanged}
-use Rattle.theorems.proofs.Changed.{one-changed-block-shows, bytes-differ}
+use Rattle.theorems.specs.Changed.{IsMessage, OneBlockChanged}
+use Rattle.theorems.proofs.Changed.{not-refused, hash-lt, into-16, bytes-differ, one-changed-block-shows}
 
 -- ---- the records of a call that is done
 
@@ -39,21 +38,24 @@ any-records key s results i bk bs lk ls l =
       inside = l;
     }
 
--- ---- a part of bytes
+-- ---- bytes
 
-module _ (n at : ℕ) (s : List ℕ) (inside : at + n ≤ length s) where
-  length-part : length (take n (drop at s)) ≡ n
-  length-part = let l = length-drop at s in length-take-le n (drop at s) (omega arith)
+bytes-part : (n at : ℕ) (s : List ℕ) → at + n ≤ length s → AreBytes s → AreBytes (take n (drop at s))
+bytes-part n at s inside b =
+    bytes-inside (take n (drop at s)) (λ i l.
+    let e = length-part n at s inside in
+    subst₂ _<_ (sym (getD-take n (drop at s) i 0 (omega arith) ∙ getD-drop at s i 0)) refl (b (at + i)))
 
-  bytes-part : AreBytes s → AreBytes (take n (drop at s))
-  bytes-part b =
-      bytes-inside (take n (drop at s)) (λ i l.
-      let e = length-part in
-      subst₂ _<_ (sym (getD-take n (drop at s) i 0 (omega arith) ∙ getD-drop at s i 0)) refl (b (at + i)))
+-- the last 16 bytes are those of their block
+last-bytes : (s : List ℕ) (at : ℕ) → AreBytes s → length s ≡ at + 16 → blockBytes (blockAt s at) ≡ drop at s
+last-bytes s at b e =
+    let l = length-drop at s in
+    beBytes-read 16 s at b (le-of-eq (sym e)) ∙ take-all 16 (drop at s) (omega arith)
 
--- 16 bytes are those of their block
-block-bytes : (c : List ℕ) → AreBytes c → length c ≡ 16 → blockBytes (blockAt c 0) ≡ c
-block-bytes c b e = beBytes-read 16 c 0 b (le-of-eq (sym e)) ∙ take-all 16 c (le-of-eq e)
+-- 16 bytes as A, and an empty C
+one-block-message : (c : List ℕ) → AreBytes c → length c ≡ 16 → IsMessage c []
+one-block-message c b e =
+    record { bytesA = b; bytesC = bytes-inside [] (λ i l. absurd (not-suc-le-zero l)); withinA = omega arith; withinC = lit≤ tt }
 
 -- ---- one record
 
@@ -84,88 +86,69 @@ module _ (key s results : List ℕ) (i : ℕ) (k : Checked key s results i) wher
   bytes-link : AreBytes (linkOf s i)
   bytes-link = bytes-part 32 (32 * i) s room (k .bytes)
 
-  half : 16 ≤ length (linkOf s i)
-  half = let e = length-link in omega arith
-
-  length-claim : length (claimOf (linkOf s i)) ≡ 16
-  length-claim = length-part 16 0 (linkOf s i) half
-
   bytes-claim : AreBytes (claimOf (linkOf s i))
-  bytes-claim = bytes-part 16 0 (linkOf s i) half bytes-link
+  bytes-claim = let e = length-link in bytes-part 16 0 (linkOf s i) (omega arith) bytes-link
 
-  within : length (claimOf (linkOf s i)) ≤ limit
-  within = let e = length-claim in omega arith
+  message : IsMessage (claimOf (linkOf s i)) []
+  message = one-block-message (claimOf (linkOf s i)) bytes-claim (length-claim s (32 * i) room)
 
-  -- the call for a whole message is not refused
   hashed : hashBlock key (claimOf (linkOf s i)) [] ≡ ghash (blockAt key 0) (claimOf (linkOf s i)) []
-  hashed = rw (eq-eqb (length key) 16 sixteen, le-ltb limit (length (claimOf (linkOf s i))) within) refl
-
-  hash-lt : ghash (blockAt key 0) (claimOf (linkOf s i)) [] < 2 ^ 128
-  hash-lt =
-      let h = blockAt key 0 in
-      let c = claimOf (linkOf s i) in
-      subst₂ _<_ (sym (ghash-parts h c [])) refl
-      (next-lt h (over h (over h 0 (blocksOf c)) (blocksOf [])) (lengthBlock (length c) 0) (beAt-lt key (k .keyBytes) 0 16))
-
-  -- the expected hash's bytes
-  last-bytes : blockBytes (expectedOf (linkOf s i)) ≡ drop 16 (linkOf s i)
-  last-bytes =
-      let e = length-link in
-      let l = length-drop 16 (linkOf s i) in
-      beBytes-read 16 (linkOf s i) 16 bytes-link (omega arith) ∙ take-all 16 (drop 16 (linkOf s i)) (omega arith)
-
-  written : (out : List ℕ) → length out ≡ 16 → hashOut key (claimOf (linkOf s i)) [] out ≡ blockBytes (hashBlock key (claimOf (linkOf s i)) [])
-  written out lo = rw (eq-eqb (length out) 16 lo)
+  hashed = not-refused key (claimOf (linkOf s i)) [] sixteen message
 
   agrees-where-one : resultOf key s results i ≡ 1 → hashBlock key (claimOf (linkOf s i)) [] ≡ expectedOf (linkOf s i)
   agrees-where-one e =
-      hashed ∙ eqb-true (ghash (blockAt key 0) (claimOf (linkOf s i)) []) (expectedOf (linkOf s i)) (is-one (agrees (blockAt key 0) (linkOf s i)) (sym result-is ∙ e))
+      hashed
+      ∙ eqb-true (ghash (blockAt key 0) (claimOf (linkOf s i)) []) (expectedOf (linkOf s i))
+      (is-one (agrees (blockAt key 0) (linkOf s i)) (sym result-is ∙ e))
 
   one-where-agrees : hashBlock key (claimOf (linkOf s i)) [] ≡ expectedOf (linkOf s i) → resultOf key s results i ≡ 1
   one-where-agrees e =
-      result-is ∙ ap (λ (b : Bool). cond b 1 0) (eq-eqb (ghash (blockAt key 0) (claimOf (linkOf s i)) []) (expectedOf (linkOf s i)) (sym hashed ∙ e))
+      result-is
+      ∙ ap (λ (b : Bool). cond b 1 0)
+      (eq-eqb (ghash (blockAt key 0) (claimOf (linkOf s i)) []) (expectedOf (linkOf s i)) (sym hashed ∙ e))
+
+  -- both are the bytes of a block
+  written : (out : List ℕ) → length out ≡ 16 → hashOut key (claimOf (linkOf s i)) [] out ≡ blockBytes (hashBlock key (claimOf (linkOf s i)) [])
+  written out lo = into-16 out (hashBlock key (claimOf (linkOf s i)) []) lo
+
+  expected-bytes : blockBytes (expectedOf (linkOf s i)) ≡ drop 16 (linkOf s i)
+  expected-bytes = last-bytes (linkOf s i) 16 bytes-link length-link
 
 pub one-hash-each : OneHashEach
 one-hash-each key s results out i k lo = (
-  λ e. written key s results i k out lo ∙ ap blockBytes (agrees-where-one key s results i k e) ∙ last-bytes key s results i k,
+  λ e. written key s results i k out lo ∙ ap blockBytes (agrees-where-one key s results i k e) ∙ expected-bytes key s results i k,
   λ e. one-where-agrees key s results i k
       (bytes-differ (hashBlock key (claimOf (linkOf s i)) []) (expectedOf (linkOf s i))
-      (subst₂ _<_ (sym (hashed key s results i k)) refl (hash-lt key s results i k))
+      (hash-lt key (claimOf (linkOf s i)) [] (k .keyBytes) (sixteen key s results i k) (message key s results i k))
       (beAt-lt (linkOf s i) (bytes-link key s results i k) 16 16)
-      (sym (written key s results i k out lo) ∙ e ∙ sym (last-bytes key s results i k))),
+      (sym (written key s results i k out lo) ∙ e ∙ sym (expected-bytes key s results i k))),
 )
 
 -- ---- two records
 
 -- different claim blocks are one changed block
-one-changed : (c c′ : List ℕ) → AreBytes c → AreBytes c′ → length c ≡ 16 → length c′ ≡ 16 → c ≢ c′ → OneBlockChanged c [] c′ []
-one-changed c c′ bc bc′ lc lc′ n =
+one-changed : (c c′ : List ℕ) → IsMessage c [] → IsMessage c′ [] → length c ≡ 16 → length c′ ≡ 16 → c ≢ c′ → OneBlockChanged c [] c′ []
+one-changed c c′ m m′ lc lc′ n =
     record {
-      first = record { bytesA = bc; bytesC = no-bytes; withinA = within-limit c lc; withinC = lit≤ tt };
-      second = record { bytesA = bc′; bytesC = no-bytes; withinA = within-limit c′ lc′; withinC = lit≤ tt };
+      first = m;
+      second = m′;
       lengthsA = lc ∙ sym lc′;
       lengthsC = refl;
       once = subst₂ DifferOnce (sym (alone c lc)) (sym (alone c′ lc′)) (record {
         lengths = refl;
         place = 0;
         inside = zero-lt-suc 0;
-        differs = λ e. n (sym (block-bytes c bc lc) ∙ ap blockBytes e ∙ block-bytes c′ bc′ lc′);
+        differs = λ e. n (sym (last-bytes c 0 (m .bytesA) lc) ∙ ap blockBytes e ∙ last-bytes c′ 0 (m′ .bytesA) lc′);
         agrees = λ k. elim k [ zero ↦ (λ q. absurd (q refl)) | suc j ↦ (λ q. refl) ];
       });
     }
   where
-    no-bytes : AreBytes []
-    no-bytes = bytes-inside [] (λ i l. absurd (not-suc-le-zero l))
-
-    within-limit : (a : List ℕ) → length a ≡ 16 → length a ≤ limit
-    within-limit a e = omega arith
-
     alone : (a : List ℕ) → length a ≡ 16 → blocksOf a ++ blocksOf [] ≡ blockAt a 0 ∷ []
     alone a e = ap₂ (λ (p q : List ℕ). p ++ q) (one-block a e) blocksOf-empty
 
 pub at-most-one : AtMostOne
 at-most-one key s results s′ results′ i j nz k k′ same differ e e′ =
     one-changed-block-shows key (claimOf (linkOf s i)) [] (claimOf (linkOf s′ j)) [] nz
-    (one-changed (claimOf (linkOf s i)) (claimOf (linkOf s′ j)) (bytes-claim key s results i k) (bytes-claim key s′ results′ j k′)
-    (length-claim key s results i k) (length-claim key s′ results′ j k′) differ)
+    (one-changed (claimOf (linkOf s i)) (claimOf (linkOf s′ j)) (message key s results i k) (message key s′ results′ j k′)
+    (length-claim s (32 * i) (room key s results i k)) (length-claim s′ (32 * j) (room key s′ results′ j k′)) differ)
     (agrees-where-one key s results i k e ∙ same ∙ sym (agrees-where-one key s′ results′ j k′ e′))
