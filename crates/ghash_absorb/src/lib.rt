@@ -1,4 +1,6 @@
 // How bytes go into a running hash's open block, and how the block is closed.
+#![tactic(auto)]
+
 ghost use Rattle.std.specs.Prelude.{true, ◌≡◌, ◌%◌, ◌<◌, drop};
 ghost use Rattle.ghash_block.specs.Block.{value_of, key_of};
 ghost use Rattle.ghash_step.specs.Path.{Serves};

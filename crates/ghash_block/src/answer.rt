@@ -5,7 +5,7 @@ ghost use Rattle.ghash_block.specs.Block.{value_of};
 use crate::block::Block;
 
 // The block is zero where the number is not 0. It stands first, so that an answer is not copied in pieces that cut it.
-#[derive(Drop)]
+#[derive(Clone, Copy)]
 pub struct Answer {
     pub block: Block,
     pub number: u32,

@@ -6,16 +6,16 @@ ghost use Rattle.gf128.specs.Degree.{degree_of, degree_refusal};
 
 // A data block: the number of its 16 bytes, read big-endian, as its high and its low half.
 #[repr(C)]
-#[derive(Drop)]
+#[derive(Clone, Copy)]
 pub struct Block(pub u64, pub u64);
 
 // A hash key, read from bytes as a block is. It is a type of its own, so that a key is never passed for a block.
 #[repr(C)]
-#[derive(Drop)]
+#[derive(Clone, Copy)]
 pub struct Key(pub u64, pub u64);
 
 // Document 01's number, and the place, which is 0 where the number is not.
-#[derive(Drop)]
+#[derive(Clone, Copy)]
 pub struct DegreeAnswer {
     pub number: u32,
     pub place: u32,

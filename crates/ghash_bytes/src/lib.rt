@@ -1,4 +1,6 @@
 // Blocks and keys as they are read from bytes and written to bytes.
+#![tactic(auto)]
+
 ghost use Rattle.std.specs.Prelude.{◌≡◌};
 ghost use Rattle.ghash_block.specs.Block.{value_of, key_of};
 ghost use Rattle.gf128.specs.Bytes.{block_at, put_block};

@@ -3,6 +3,8 @@
 // U.H is the sum of U's four quarters of 32 coefficients, quarter q times H·x^(32·q), so that one chain of 8 steps
 // serves all four. A step takes four coefficients of each quarter, from the last to the first: Z := Z·x^4 xor an
 // entry of each table.
+#![tactic(auto)]
+
 ghost use Rattle.std.specs.Prelude.{◌≡◌, ℕ, ◌*◌, ◌<◌};
 ghost use Rattle.ghash_block.specs.Answer.{ProductAnswer};
 ghost use Rattle.ghash_block.specs.Block.{value_of};

@@ -13,14 +13,14 @@ use ghash_block::block::{Block, Key, degree};
 use ghash_plain::times_x;
 
 // The inverse of a key, which every key but the zero one has.
-#[derive(Drop)]
+#[derive(Clone, Copy)]
 pub enum Inverse {
     Of(Block),
     ZeroKey,
 }
 
 // H·factor = value, and the value's degree.
-#[derive(Drop)]
+#[derive(Clone, Copy)]
 struct Row {
     value: Block,
     factor: Block,
@@ -28,7 +28,7 @@ struct Row {
 }
 
 // The two rows of a division: the first is the one that was reduced last.
-#[derive(Drop)]
+#[derive(Clone, Copy)]
 struct Rows {
     first: Row,
     second: Row,

@@ -12,7 +12,7 @@ use ghash_bytes::{block_at, key_at_start};
 use ghash_plain::product_plain;
 
 // The earlier hash, or why there is no single one.
-#[derive(Drop)]
+#[derive(Clone, Copy)]
 pub enum StepBack {
     Earlier(Block),
     None,

@@ -4,7 +4,7 @@ ghost use Rattle.ghash_parked.specs.Layout.{layout_of};
 
 // How many bytes a record has for each of the two counts, and how many spare ones at its end. All else is fixed: Y (16), the
 // open block (16), the count of A, the count of C, the phase (1), the spare bytes, one after the other.
-#[derive(Drop)]
+#[derive(Clone, Copy)]
 pub struct Layout {
     pub count_bytes: usize,
     pub spare_bytes: usize,
@@ -19,7 +19,7 @@ impl Layout {
 }
 
 // The layout of a length, or none.
-#[derive(Drop)]
+#[derive(Clone, Copy)]
 pub enum Found {
     One(Layout),
     Nothing,

@@ -15,7 +15,7 @@ use octets_slice::put;
 pub const PARKED_BYTES: usize = 48;
 
 // The number of a reading, and the running hash that it gives.
-#[derive(Drop)]
+#[derive(Clone, Copy)]
 pub struct Restored {
     pub number: u32,
     pub state: Running,

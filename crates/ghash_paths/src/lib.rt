@@ -1,4 +1,6 @@
 // The calls on a running hash by their path, plain or fast.
+#![tactic(auto)]
+
 ghost use Rattle.ghash_running.specs.Answers.{FeedsA, FeedsC, Finishes};
 
 use ghash_running::{Fed, Finished, fed_a_on, fed_c_on, finished_on};

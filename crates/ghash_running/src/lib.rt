@@ -1,4 +1,6 @@
 // The running hash: a message in pieces, on a path that is given. It holds no key; the key comes with every call.
+#![tactic(auto)]
+
 ghost use Rattle.std.specs.Prelude.{◌≡◌, cond, eqb};
 ghost use Rattle.ghash_block.specs.Block.{key_of};
 ghost use Rattle.ghash_step.specs.Path.{Serves};
@@ -14,14 +16,14 @@ use ghash_step::{Path, length_block, next, put_tables};
 use ghash_tables::TABLES;
 
 // Document 01's number, and the running hash after the call.
-#[derive(Drop)]
+#[derive(Clone, Copy)]
 pub struct Fed {
     pub number: u32,
     pub state: Running,
 }
 
 // The same with the hash, which is zero where the number is not.
-#[derive(Drop)]
+#[derive(Clone, Copy)]
 pub struct Finished {
     pub number: u32,
     pub state: Running,

@@ -1,4 +1,6 @@
 // What a running hash holds, and when it is malformed.
+#![tactic(auto)]
+
 ghost use Rattle.std.specs.Prelude.{◌≡◌, not, ◌&&◌, eqb, drop};
 ghost use Rattle.ghash_state.specs.State.{view, state_of, spare_zeros, Fresh, part_of};
 ghost use Rattle.gf128.specs.Running.{all_zero, open_bytes, malformed};
@@ -11,7 +13,7 @@ pub const LIMIT: usize = 1048576;
 // Y, the open block, the bytes of A and of C so far, and the phase: 0 takes A, 1 takes C, 2 is finished. The spare bytes
 // fill the struct up, so that no byte of a caller's struct is left to chance.
 #[repr(C)]
-#[derive(Drop)]
+#[derive(Clone, Copy)]
 pub struct Running {
     pub y: Block,
     pub open_block: [u8; 16],
@@ -22,7 +24,7 @@ pub struct Running {
 }
 
 // Y and the open block.
-#[derive(Drop)]
+#[derive(Clone, Copy)]
 pub struct Part {
     pub y: Block,
     pub bytes: [u8; 16],

@@ -1,4 +1,6 @@
 // The steps of the hash on the plain and on the fast path: one block, the blocks of a slice, and the block of the lengths.
+#![tactic(auto)]
+
 ghost use Rattle.std.specs.Prelude.{◌≡◌, ◌≤◌};
 ghost use Rattle.ghash_block.specs.Block.{value_of, key_of};
 ghost use Rattle.ghash_step.specs.Path.{Serves, TablesPut};
@@ -11,7 +13,7 @@ use ghash_plain::product_plain;
 use ghash_tables::{TABLES, fill_tables};
 
 // Which product a call uses: the plain path is bit by bit, the fast path four coefficients at a time.
-#[derive(Drop)]
+#[derive(Clone, Copy)]
 pub enum Path {
     Plain,
     Fast,

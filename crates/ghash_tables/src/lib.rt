@@ -1,4 +1,6 @@
 // A key's tables for the fast product: the multiples of the key by four coefficients at a time, and the reductions of an overflow.
+#![tactic(auto)]
+
 ghost use Rattle.std.specs.Prelude.{◌≡◌, ◌+◌, ◌*◌, ◌%◌, ◌^◌, ◌≤◌, length};
 ghost use Rattle.std.proofs.lemmas.List.Edits.{sets};
 ghost use Rattle.ghash_block.specs.Block.{value_of, key_of};

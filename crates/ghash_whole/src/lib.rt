@@ -1,4 +1,6 @@
 // The hash of a whole message, A and C, on the plain and on the fast path.
+#![tactic(auto)]
+
 ghost use Rattle.std.specs.Prelude.{◌≡◌, ◌≤◌, length};
 ghost use Rattle.ghash_block.specs.Block.{value_of, key_of};
 ghost use Rattle.ghash_whole.specs.Answer.{HashAnswer};

@@ -3,7 +3,7 @@ ghost use Rattle.std.specs.Prelude.{◌≡◌, length};
 ghost use Rattle.known_bytes.specs.Pattern.{next_of, filled};
 
 // Byte i is (step i + first) mod modulus: the first, the step and the modulus.
-#[derive(Drop)]
+#[derive(Clone, Copy)]
 pub struct Pattern(pub u64, pub u64, pub u64);
 
 impl Pattern {

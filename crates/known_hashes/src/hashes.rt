@@ -10,7 +10,7 @@ use ghash_whole::{ghash_fast, ghash_plain};
 use known_compare::compare::{answer, block_bytes};
 
 // Whole on either path, or in pieces of some bytes.
-#[derive(Drop)]
+#[derive(Clone, Copy)]
 pub enum Way {
     Plain,
     Fast,

@@ -13,7 +13,7 @@ use ghash_step::Path;
 use octets_slice::part_end;
 
 // Which path each call takes.
-#[derive(Drop)]
+#[derive(Clone, Copy)]
 pub enum Mix {
     Plain,
     Fast,
@@ -21,7 +21,7 @@ pub enum Mix {
 }
 
 // The part of a message that a piece belongs to.
-#[derive(Drop)]
+#[derive(Clone, Copy)]
 enum Part {
     A,
     C,

@@ -1,4 +1,6 @@
 // Many links checked under one key, in one call: document 02, Ask 7.
+#![tactic(auto)]
+
 ghost use Rattle.std.specs.Prelude.{cond, ◌≡◌, ℕ, ◌+◌, ◌*◌, ◌≤◌, eqb, length};
 ghost use Rattle.ghash_block.specs.Block.{value_of, key_of};
 ghost use Rattle.link_many.specs.Links.{agrees, record_at, answers, links_refusal, links_number, links_results};

@@ -1,4 +1,6 @@
 // Bytes at a place in a slice, and numbers with the highest byte first. A read past the end gives zeros.
+#![tactic(auto)]
+
 ghost use Rattle.std.specs.Prelude.{◌≡◌, ◌+◌, ◌^◌, ◌<◌, ◌≤◌, length, get_or};
 ghost use Rattle.std.proofs.lemmas.List.Edits.{sets};
 ghost use Rattle.octets.specs.BigEndian.{be_at, be_bytes};

@@ -1,4 +1,6 @@
 // Numbers at a place in a slice, the lowest byte first: a read past the end gives zeros, and a write past the end changes nothing.
+#![tactic(auto)]
+
 ghost use Rattle.std.specs.Prelude.{◌≡◌, ◌≤◌, set};
 ghost use Rattle.octets.specs.LittleEndian.{read_le, write_le};
 

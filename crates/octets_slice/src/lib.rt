@@ -1,4 +1,6 @@
 // Runs of bytes in slices: where a part of a slice ends, bytes put at a place, and two slices compared.
+#![tactic(auto)]
+
 ghost use Rattle.std.specs.Prelude.{true, ◌≡◌, ◌+◌, ◌≤◌, min};
 ghost use Rattle.std.proofs.lemmas.List.Edits.{sets};
 

@@ -1,4 +1,6 @@
 // The C boundary: thin functions under the names of include/rvghash.h.
+#![tactic(auto)]
+
 pub mod field_calls;
 pub mod hash_calls;
 pub mod link_calls;

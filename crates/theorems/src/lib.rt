@@ -1,1 +1,2 @@
 // Theorems about the definitions, for readers. There is no code here: no edit of the code below checks them again.
+#![tactic(auto)]

@@ -1,4 +1,6 @@
 // The form of a trace that is replayed: whole records, and policy bytes 0 to 3. Document 02, Asks 3 and 5.
+#![tactic(auto)]
+
 ghost use Rattle.std.specs.Prelude.{◌≡◌};
 ghost use Rattle.trace_form.specs.Form.{well_formed};
 

@@ -1,4 +1,6 @@
 // The policy byte of a trace's record: document 02, Ask 5.
+#![tactic(auto)]
+
 ghost use Rattle.std.specs.Prelude.{cond, ◌≡◌};
 ghost use Rattle.trace_policy.specs.Policy.{policy_of};
 

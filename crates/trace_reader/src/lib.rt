@@ -1,19 +1,21 @@
 // A reader of a trace, which keeps hold of the lent trace and its place in it: document 01, "The form each place takes". Each
 // function over the struct is proved by a walk of its code by hand, and leaves the work to a function on slice and number.
+#![tactic(auto)]
+
 ghost use Rattle.std.specs.Prelude.{◌≡◌};
 ghost use Rattle.trace_reader.specs.Reader.{whole_at, next_at, place_after};
 
 use trace_record::{RECORD_BYTES, Record, record_at};
 
 // The trace, and the place of the next record in it.
-#[derive(Drop)]
+#[derive(Clone, Copy)]
 pub struct Reader<'a> {
     pub trace: &'a [u8],
     pub at: usize,
 }
 
 // What a reader gives: a whole record, or the end. A rest of under 24 bytes is no record.
-#[derive(Drop)]
+#[derive(Clone, Copy)]
 pub enum Next {
     Whole(Record),
     End,

@@ -1,4 +1,6 @@
 // A record of a trace: one call of the executor, and its answer. Document 02, Asks 3 and 5.
+#![tactic(auto)]
+
 ghost use Rattle.std.specs.Prelude.{◌≡◌, ◌+◌, ◌≤◌, length};
 ghost use Rattle.std.proofs.lemmas.List.Edits.{sets};
 ghost use Rattle.octets.specs.LittleEndian.{read_le};
@@ -11,7 +13,7 @@ use octets_slice::put;
 pub const RECORD_BYTES: usize = 24;
 
 // The word, the settings without VLEN, the scalar and the answer of a call. `policy` is the policy byte; vstart is the one before the call.
-#[derive(Drop)]
+#[derive(Clone, Copy)]
 pub struct Record {
     pub word: u32,
     pub sew: u32,

@@ -1,4 +1,6 @@
 // Replay of a trace on a lent register file: document 02, Asks 3 and 5.
+#![tactic(auto)]
+
 ghost use Rattle.std.specs.Prelude.{◌≡◌};
 ghost use Rattle.trace_replay.specs.Replay.{settings_of, agrees, after_record, replayed, number_of, index_of};
 
@@ -10,7 +12,7 @@ use vector_registers::settings::Settings;
 
 // How a replay ends: every answer is ours, with the number of records; the index of the first record whose answer is not; or the
 // trace is refused, and nothing ran.
-#[derive(Drop)]
+#[derive(Clone, Copy)]
 pub enum Replayed {
     Done(usize),
     Differs(usize),
@@ -66,7 +68,7 @@ pub fn replay(vlen: u32, file: &mut [u8], trace: &[u8]) -> Replayed
 // ---- what C gets
 
 // The number, and the index: of the record that differs, the number of records when done, 0 on a refusal.
-#[derive(Drop)]
+#[derive(Clone, Copy)]
 pub struct Answer {
     pub number: u32,
     pub index: usize,

@@ -1,5 +1,7 @@
 // The carry-less words: document 01, "Execution", and the pseudocode of source 002. Elements are done one after the other, and
 // each reads its sources before it is written.
+#![tactic(auto)]
+
 ghost use Rattle.std.specs.Prelude.{true, ◌≡◌};
 ghost use Rattle.vector_registers.specs.Settings.{sew_allowed};
 ghost use Rattle.vector_clmul.specs.Carryless.{element, scalar_of, multiplier_of, carryless_result, carryless_step, carryless};
@@ -11,7 +13,7 @@ use vector_registers::settings::Settings;
 use vector_word::Fields;
 
 // The multiplier of an element: vs1's element, or one number for all elements.
-#[derive(Drop)]
+#[derive(Clone, Copy)]
 pub enum Multiplier {
     Vs1,
     Scalar(u64),

@@ -15,7 +15,7 @@ use vector_registers::settings::Settings;
 use vector_word::{Fields, Word, decode};
 
 // Document 01's number, and vstart after the call.
-#[derive(Drop)]
+#[derive(Clone, Copy)]
 pub struct Executed {
     pub number: u32,
     pub vstart: u32,

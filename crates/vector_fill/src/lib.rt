@@ -1,4 +1,6 @@
 // What the tail and mask policies fill with ones bits: document 02, Ask 5.
+#![tactic(auto)]
+
 ghost use Rattle.std.specs.Prelude.{◌≡◌};
 ghost use Rattle.vector_fill.specs.Fill.{ones_between, group_end, ones_in_element, mask_step, mask_filled, tail_filled, filled};
 

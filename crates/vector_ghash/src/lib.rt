@@ -1,5 +1,7 @@
 // The GHASH words: document 01, "Execution", and the pseudocode of sources 000 and 002. Groups are done one after the other, and
 // each reads its sources before it is written.
+#![tactic(auto)]
+
 ghost use Rattle.std.specs.Prelude.{◌≡◌, ℕ};
 ghost use Rattle.ghash_block.specs.Block.{value_of, key_of};
 ghost use Rattle.ghash_tables.specs.Table.{TableOf};
@@ -14,7 +16,7 @@ use vector_registers::settings::Settings;
 use vector_word::Fields;
 
 // The multiplier, of which source 002 calls H the multiplicand: Y xor X in vghsh, Y in vgmul.
-#[derive(Drop)]
+#[derive(Clone, Copy)]
 pub enum GhashMultiplier {
     YXorX,
     YAlone,

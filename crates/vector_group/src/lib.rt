@@ -1,4 +1,6 @@
 // Register groups: document 01, "Asked for a register group, the library hands back that group's own bytes of the lent file."
+#![tactic(auto)]
+
 ghost use Rattle.std.specs.Prelude.{◌+◌, ◌≡◌, length};
 ghost use Rattle.vector_group.specs.Group.{group_refusal, part_start, part_of, group_of};
 
@@ -26,7 +28,7 @@ pub fn group_refusal(vlen: u32, file_len: usize, lmul: u32, register: u32) -> u3
 }
 
 // The part of the file that a group is: its start and length in bytes, 0 and 0 where the number is not 0.
-#[derive(Drop)]
+#[derive(Clone, Copy)]
 pub struct Part {
     pub number: u32,
     pub start: usize,

@@ -1,9 +1,11 @@
 // The eight kinds of word, and what tells them apart beside their encoding: one table, and the questions that are asked of it.
+#![tactic(auto)]
+
 ghost use Rattle.std.specs.Prelude.{◌≡◌};
 ghost use Rattle.vector_kind.specs.Kinds.{traits_with, traits, is_ghash, is_vv, is_vs, has_vs1_group};
 
 // The eight words of document 01's table.
-#[derive(Drop)]
+#[derive(Clone, Copy)]
 pub enum Kind {
     VclmulVv,
     VclmulVx,
@@ -16,14 +18,14 @@ pub enum Kind {
 }
 
 // What a word does: a carry-less product of elements, or a GHASH product of groups of 128 bits.
-#[derive(Drop)]
+#[derive(Clone, Copy)]
 pub enum Operation {
     Carryless,
     Ghash,
 }
 
 // How its sources are given, by the ending of its name.
-#[derive(Drop)]
+#[derive(Clone, Copy)]
 pub enum Form {
     Vv,
     Vx,
@@ -31,7 +33,7 @@ pub enum Form {
 }
 
 // A row of the table, a field for each column.
-#[derive(Drop)]
+#[derive(Clone, Copy)]
 pub struct Traits {
     pub operation: Operation,
     pub form: Form,

@@ -1,4 +1,6 @@
 // The text of a word, written to a lent buffer: document 02, Ask 1.
+#![tactic(auto)]
+
 ghost use Rattle.std.specs.Prelude.{◌≡◌, ◌++◌, ◌+◌, ◌<◌, ◌≤◌, length};
 ghost use Rattle.vector_word.specs.Word.{decode};
 ghost use Rattle.vector_listing.specs.Text.{mnemonic, digit, decimal, third_of, third, mask, text};
@@ -9,7 +11,7 @@ use vector_kind::{Form, Kind, traits_of};
 use vector_word::{Fields, Word, decode};
 
 // What the vs1 field is in a word's text: the vector register vs1, the scalar register rs1, or nothing.
-#[derive(Drop)]
+#[derive(Clone, Copy)]
 pub enum Third {
     Vs1,
     Rs1,
@@ -17,7 +19,7 @@ pub enum Third {
 }
 
 // What the listing answers: the number, and the text's length, which is 0 where the number is not.
-#[derive(Drop)]
+#[derive(Clone, Copy)]
 pub struct Listed {
     pub number: u32,
     pub length: usize,

@@ -1,4 +1,6 @@
 // The writer and the decoder with the kinds as numbers, for callers in C.
+#![tactic(auto)]
+
 ghost use Rattle.std.specs.Prelude.{◌≡◌};
 ghost use Rattle.vector_kind.specs.Kinds.{kind_number};
 ghost use Rattle.vector_word.specs.Word.{decode};
@@ -8,14 +10,14 @@ use vector_kind::Kind;
 use vector_word::{Encoded, Fields, Word, decode, encode};
 
 // The kind with a number, or none.
-#[derive(Drop)]
+#[derive(Clone, Copy)]
 pub enum Numbered {
     Is(Kind),
     Nothing,
 }
 
 // What the decoder answers: the number, and the kind's number and the fields, which are 0 where the number is not.
-#[derive(Drop)]
+#[derive(Clone, Copy)]
 pub struct Decoded {
     pub number: u32,
     pub kind: u32,

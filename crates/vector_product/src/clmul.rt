@@ -6,14 +6,14 @@ ghost use Rattle.vector_product.specs.Clmul.{clmul64, half_of};
 use crate::pieces::{WINDOW, even_products, fill_window};
 
 // The half of a carry-less product that a word keeps.
-#[derive(Drop)]
+#[derive(Clone, Copy)]
 pub enum Half {
     Low,
     High,
 }
 
 // A number of 128 bits: its high half, then its low half.
-#[derive(Drop)]
+#[derive(Clone, Copy)]
 pub struct Wide(pub u64, pub u64);
 
 // The whole product of two numbers, from the products of their 8-bit pieces. A piece of b is multiplied with the even pieces of a

@@ -1,5 +1,7 @@
 // The reader: from the text of a word back to the word. What a text seems to say is written, listed again and compared with it, so that
 // exactly the texts of words are taken.
+#![tactic(auto)]
+
 ghost use Rattle.std.specs.Prelude.{◌≡◌, ◌+◌, ◌≤◌};
 ghost use Rattle.vector_reader.specs.Scan.{either, kind_in, scanned, operands_at, has_third, vm_at, fields_after, fields_in};
 ghost use Rattle.vector_reader.specs.Reading.{Reads};
@@ -11,7 +13,7 @@ use vector_listing::list;
 use vector_word::{Encoded, Fields, encode};
 
 // A number in a text, and the place after it.
-#[derive(Drop)]
+#[derive(Clone, Copy)]
 pub struct Scanned {
     pub value: u32,
     pub end: usize,

@@ -1,4 +1,6 @@
 // The refusal of a word under its settings: document 01's numbers 0 to 8.
+#![tactic(auto)]
+
 ghost use Rattle.std.specs.Prelude.{not, ◌&&◌, ◌≡◌};
 ghost use Rattle.vector_kind.specs.Kinds.{is_vs};
 ghost use Rattle.vector_registers.specs.Settings.{misaligned};

@@ -1,2 +1,4 @@
 // The settings of a call.
+#![tactic(auto)]
+
 pub mod settings;

@@ -4,7 +4,7 @@ ghost use Rattle.vector_registers.specs.Settings.{one_of, vlen_allowed, sew_allo
 
 // What the host sets before a word: VLEN and SEW in bits, LMUL in registers, tail and mask agnostic (vtype's vta and vma), vl and vstart
 // in elements.
-#[derive(Drop)]
+#[derive(Clone, Copy)]
 pub struct Settings {
     pub vlen: u32,
     pub sew: u32,

@@ -1,4 +1,6 @@
 // The eight words and their fields: document 01, "The eight words".
+#![tactic(auto)]
+
 ghost use Rattle.std.specs.Prelude.{◌≡◌};
 ghost use Rattle.vector_word.specs.Word.{row_with, row, allows, is_row, fields_of, as_kind, decode};
 ghost use Rattle.vector_word.specs.Writer.{admits, word_of, Narrow, encoded};
@@ -6,7 +8,7 @@ ghost use Rattle.vector_word.specs.Writer.{admits, word_of, Narrow, encoded};
 use vector_kind::Kind;
 
 // The fields that a word of any kind has; vs1 is rs1 in a .vx word.
-#[derive(Drop)]
+#[derive(Clone, Copy)]
 pub struct Fields {
     pub vm: u32,
     pub vs2: u32,
@@ -15,21 +17,21 @@ pub struct Fields {
 }
 
 // A word of one of the eight kinds with its fields, or none of them.
-#[derive(Drop)]
+#[derive(Clone, Copy)]
 pub enum Word {
     Known(Kind, Fields),
     Unknown,
 }
 
 // What a row of the table says of a field.
-#[derive(Drop)]
+#[derive(Clone, Copy)]
 pub enum Given {
     Any,
     Is(u32),
 }
 
 // A row of the table, a field for each column.
-#[derive(Drop)]
+#[derive(Clone, Copy)]
 pub struct Row {
     pub funct6: u32,
     pub vm: Given,
@@ -137,7 +139,7 @@ pub fn decode(word: u32) -> Word
 }
 
 // What the writer answers: the number, and the word, which is 0 where the number is not.
-#[derive(Drop)]
+#[derive(Clone, Copy)]
 pub struct Encoded {
     pub number: u32,
     pub word: u32,

@@ -1,0 +1,11 @@
+-- `byte` meets its contract: an element of a byte slice is below 256. Assumes nothing.
+use mathlib.Core.Path.{refl}
+use native.Mathlib.Omega.{arith}
+use borrow.Author.Rules.{rules}
+use Rattle.octets.proofs.byte.Goals as goal
+
+pub overflow_cast-result : goal.overflow_cast-result
+overflow_cast-result c = omega (arith, c.type_inv.s c.args.at)
+
+pub returns : goal.returns
+returns c = (refl, (c.type_inv.s c.args.at).fits)

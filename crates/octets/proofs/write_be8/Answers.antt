@@ -1,0 +1,16 @@
+-- `write_be8` meets its contract: a run of bytes is written in two parts. Assumes nothing.
+use mathlib.Core.Path.{ap, ◌∙◌}
+use mathlib.Core.List.{List}
+use Prim.Native.Nat.{ℕ, ◌+◌}
+use lib.Seq.{sets}
+use Rattle.octets.specs.BigEndian.{be_bytes}
+use Rattle.octets.proofs.BigEndian.{sets-split}
+use borrow.Author.Rules.{rules}
+use Rattle.octets.proofs.write_be8.Goals as goal
+
+pub returns : goal.returns
+returns c =
+    let a = c.args in
+    c.store4-2.ensures
+    ∙ ap (λ (l : List ℕ). sets l (a.at + 4) (be_bytes 4 a.v)) c.store4.ensures
+    ∙ sets-split a.s.now a.at 4 4 a.v
