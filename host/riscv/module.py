@@ -1,5 +1,5 @@
 #!/usr/bin/env python3
-"""Makes of the LLVM module that `rt staticlib` compiles for x86-64 one for RISC-V, and holds it against the header.
+"""Makes of the LLVM module that `rt lib` compiles for x86-64 one for RISC-V, and holds it against the header.
 
     module.py HEADER MODULE.ll OUT.ll        writes OUT.ll, and prints the header's functions, one to a line
 

@@ -10,7 +10,6 @@ its kinds of word those of crates/vector_kind, and its lengths of records the co
 import glob
 import json
 import os
-import platform
 import re
 import subprocess
 import sys
@@ -39,8 +38,7 @@ def read(path):
 def kit_clang():
     """The clang of the kit that `rt` belongs to."""
     guide = subprocess.run(["rt", "doc"], capture_output=True, text=True, check=True).stdout.strip()
-    kit = os.path.dirname(os.path.dirname(guide))
-    return os.path.join(kit, "on", platform.machine(), "toolchain/bin/clang")
+    return os.path.join(os.path.dirname(guide), "toolchain/bin/clang")
 
 
 def parsed(header):
