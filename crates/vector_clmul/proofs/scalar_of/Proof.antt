@@ -1,4 +1,4 @@
--- `scalar_of` gives the multiplier of a.vx word. Assumes nothing.
+-- `scalar_of` gives the multiplier of a .vx word. Assumes nothing.
 use Prim.Native.Nat.{◌%◌, ◌^◌}
 use lib.Dec.{eqb}
 use borrow.Author.Tests.{eq-eqb, ne_eqb}
