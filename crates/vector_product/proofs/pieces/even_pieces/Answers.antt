@@ -3,14 +3,10 @@
 use mathlib.Core.Path.{◌≡◌, refl, ap, ◌∙◌}
 use lib.Bits.{bit_and}
 use Rattle.vector_product.proofs.Lanes.{mask, masked}
-use Rattle.vector_product.proofs.pieces.even_pieces.Statement.{statement}
-use Rattle.vector_product.proofs.pieces.even_pieces.Tie as tie
+use Rattle.vector_product.proofs.pieces.even_pieces.Goals as goal
 
-returns : tie.Need-returns
+pub returns : goal.returns
 unfolding mask
 returns c =
     let four : 0x00FF00FF00FF00FF ≡ mask 4 = refl in
     ap (bit_and c.args.a) four ∙ masked 4 c.args.a
-
-pub even-pieces-spec : {M : Type 1} → statement M
-even-pieces-spec = tie.close (tie.spec returns)
