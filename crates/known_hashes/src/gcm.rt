@@ -9,6 +9,8 @@ use known_bytes::place::counted_end;
 use known_report::data_file::read;
 use known_report::report::report;
 use octets_slice::part_end;
+use std::io;
+use std::rt::Files;
 
 // The bytes before A.
 const HEAD: usize = 36;
@@ -58,38 +60,41 @@ fn records(agreed: u64, way: Way, s: &[u8]) -> u64 {
     n
 }
 
-fn whole(s: &[u8]) {
+fn whole(rt: &impl Print, s: &[u8]) -> io::Result<()> {
     report(
+        rt,
         b"NIST GCM vectors, whole, plain path",
         records(0, Way::Plain, s),
         450,
-    );
+    )?;
     report(
+        rt,
         b"NIST GCM vectors, whole, fast path",
         records(0, Way::Fast, s),
         450,
-    );
+    )
 }
 
-fn pieces(s: &[u8]) {
+fn pieces(rt: &impl Print, s: &[u8]) -> io::Result<()> {
     let mut n = records(0, Way::Pieces(Mix::Plain, 1), s);
     n = records(n, Way::Pieces(Mix::Fast, 7), s);
     n = records(n, Way::Pieces(Mix::Turns, 16), s);
     n = records(n, Way::Pieces(Mix::Turns, 23), s);
     report(
+        rt,
         b"NIST GCM vectors, in pieces, plain, fast and by turns",
         n,
         1800,
-    );
+    )
 }
 
-fn all(s: &[u8]) {
-    whole(s);
-    pieces(s);
+fn all(rt: &impl Print, s: &[u8]) -> io::Result<()> {
+    whole(rt, s)?;
+    pieces(rt, s)
 }
 
-pub fn run() {
-    let mut buffer = io::large_buffer();
-    let n = read(b"gcm.bin", &mut buffer);
-    all(&buffer[..n]);
+pub fn run(rt: &(impl Files + Print + Eprint)) -> io::Result<()> {
+    let mut buffer = [0u8; 65536];
+    let n = read(rt, b"gcm.bin", &mut buffer);
+    all(rt, &buffer[..n])
 }

@@ -8,6 +8,8 @@ use ghash_state::LIMIT;
 use known_bytes::pattern::{Pattern, fill};
 use known_report::data_file::read;
 use known_report::report::report;
+use std::io;
+use std::rt::Files;
 
 const OF_A: Pattern = Pattern(3, 7, 251);
 
@@ -23,11 +25,11 @@ fn at_limit(agreed: u64, s: &[u8], key: usize, hash: usize, a: &[u8], c: &[u8]) 
 }
 
 // The longest A, the longest C, and both.
-fn longest(s: &[u8], none: &[u8], a: &[u8], c: &[u8]) {
+fn longest(rt: &impl Print, s: &[u8], none: &[u8], a: &[u8], c: &[u8]) -> io::Result<()> {
     let mut n = at_limit(0, s, 0, 16, a, none);
     n = at_limit(n, s, 32, 48, none, c);
     n = at_limit(n, s, 64, 80, a, c);
-    report(b"1,048,576 bytes of A, of C and of both", n, 9);
+    report(rt, b"1,048,576 bytes of A, of C and of both", n, 9)
 }
 
 // One byte more, whole: 11 and the zero block.
@@ -36,14 +38,15 @@ fn past_limit(agreed: u64, h: Block, a: &[u8], c: &[u8]) -> u64 {
     hash_answer(n, Way::Fast, h, a, c, 11, Block::ZERO)
 }
 
-fn whole(s: &[u8], none: &[u8], a: &[u8], c: &[u8]) {
+fn whole(rt: &impl Print, s: &[u8], none: &[u8], a: &[u8], c: &[u8]) -> io::Result<()> {
     let h = block_at(s, 0);
     let n = past_limit(0, h, a, none);
     report(
+        rt,
         b"1,048,577 bytes refused, whole",
         past_limit(n, h, none, c),
         4,
-    );
+    )
 }
 
 // One byte more, running: the piece that has it is refused with 11, and the hash is that of the bytes before it.
@@ -55,43 +58,49 @@ fn fed_past_limit(agreed: u64, s: &[u8], key: usize, hash: usize, a: &[u8], c: &
     hash_answer(n, Way::Pieces(Mix::Fast, 65536), h, a, c, 11, y)
 }
 
-fn running(s: &[u8], none: &[u8], a: &[u8], c: &[u8]) {
+fn running(rt: &impl Print, s: &[u8], none: &[u8], a: &[u8], c: &[u8]) -> io::Result<()> {
     let n = fed_past_limit(0, s, 0, 16, a, none);
     report(
+        rt,
         b"1,048,577 bytes refused, running",
         fed_past_limit(n, s, 32, 48, none, c),
         6,
-    );
+    )
 }
 
 // A and C have one byte more than the limit.
-fn both_sides(limit: usize, s: &[u8], a: &[u8], c: &[u8]) {
+fn both_sides(rt: &impl Print, limit: usize, s: &[u8], a: &[u8], c: &[u8]) -> io::Result<()> {
     if a.len() < limit {
-        return;
+        return Ok(());
     }
     if c.len() < limit {
-        return;
+        return Ok(());
     }
     let none = [0u8; 0];
-    longest(s, &none, &a[0..limit], &c[0..limit]);
-    whole(s, &none, a, c);
-    running(s, &none, a, c);
+    longest(rt, s, &none, &a[0..limit], &c[0..limit])?;
+    whole(rt, s, &none, a, c)?;
+    running(rt, s, &none, a, c)
 }
 
-fn filled(s: &[u8], a: &mut [u8; 1048577], c: &mut [u8; 1048577]) {
+fn filled(
+    rt: &impl Print,
+    s: &[u8],
+    a: &mut [u8; 1048577],
+    c: &mut [u8; 1048577],
+) -> io::Result<()> {
     fill(OF_A, a);
     fill(OF_C, c);
-    both_sides(LIMIT, s, a, c);
+    both_sides(rt, LIMIT, s, a, c)
 }
 
-fn all(s: &[u8]) {
+fn all(rt: &impl Print, s: &[u8]) -> io::Result<()> {
     let mut a = [0u8; 1048577];
     let mut c = [0u8; 1048577];
-    filled(s, &mut a, &mut c);
+    filled(rt, s, &mut a, &mut c)
 }
 
-pub fn run() {
+pub fn run(rt: &(impl Files + Print + Eprint)) -> io::Result<()> {
     let mut buffer = [0u8; 96];
-    let n = read(b"limits.bin", &mut buffer);
-    all(&buffer[..n]);
+    let n = read(rt, b"limits.bin", &mut buffer);
+    all(rt, &buffer[..n])
 }

@@ -8,8 +8,10 @@ mod limits;
 mod marked;
 mod pieces;
 
-fn main() {
-    marked::run();
-    gcm::run();
-    limits::run();
+use std::io;
+
+fn main(rt: HostRuntime) -> io::Result<()> {
+    marked::run(&rt)?;
+    gcm::run(&rt)?;
+    limits::run(&rt)
 }

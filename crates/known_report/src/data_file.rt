@@ -1,23 +1,53 @@
 // Files of data/.
-ghost use Rattle.io.specs.Counts.{IsPrefixLen};
+ghost use Rattle.known_report.specs.Counts.{IsPrefixLen};
 
-// Reads into the buffer and closes the file.
-fn read_open(fd: i32, buffer: &mut [u8]) -> usize
+use std::fs;
+use std::io::Read;
+use std::rt::Files;
+
+// Opens the file. Where that fails, standard error says why.
+fn open<R: Files + Eprint>(rt: &R, path: &[u8]) -> Option<R::File> {
+    let Ok(name) = str::from_utf8(path) else {
+        let _ = eprintln!(rt; "{path:?}: a path is text");
+        return None;
+    };
+    match fs::open(rt, name) {
+        Ok(file) => Some(file),
+        Err(e) => {
+            let _ = eprintln!(rt; "{name}: {e}");
+            None
+        }
+    }
+}
+
+// Reads until the buffer is full, the file ends or a read fails, and answers how many bytes.
+fn read_full(file: &mut impl Read, buffer: &mut [u8]) -> usize
     ensures { IsPrefixLen result buffer.new }
 {
-    let n = io::read_full(fd, buffer);
-    libc::close(fd);
-    n
+    let mut done: usize = 0;
+    while done < buffer.len() {
+        let n = file.read(&mut buffer[done..]).unwrap_or(0);
+        if n == 0 {
+            break;
+        }
+        done += n;
+    }
+    done
+}
+
+// Reads into the buffer and closes the file.
+fn read_open(mut file: impl Read + Drop, buffer: &mut [u8]) -> usize
+    ensures { IsPrefixLen result buffer.new }
+{
+    read_full(&mut file, buffer)
 }
 
 // Reads the file into the buffer, and answers how many bytes; 0 where it cannot be opened.
-pub fn read(path: &[u8], buffer: &mut [u8]) -> usize
+pub fn read<R: Files + Eprint>(rt: &R, path: &[u8], buffer: &mut [u8]) -> usize
     ensures { IsPrefixLen result buffer.new }
 {
-    let fd = os::open_read(path);
-    if fd < 0 {
-        os::fail(path);
+    let Some(file) = open(rt, path) else {
         return 0;
-    }
-    read_open(fd, buffer)
+    };
+    read_open(file, buffer)
 }

@@ -1,24 +1,22 @@
 // A line for each group of cases: how many agree.
-use libc::STDOUT_FILENO;
+use std::io;
+use std::io::Write;
 
 // Ends a line that has the name of the group.
-fn end_line(agreed: u64, tried: u64) {
-    io::write_all(STDOUT_FILENO, b": ");
-    io::print_decimal(STDOUT_FILENO, agreed);
-    io::write_all(STDOUT_FILENO, b" of ");
-    io::print_decimal(STDOUT_FILENO, tried);
-    io::write_all(STDOUT_FILENO, b" agree\n");
+fn end_line(out: &mut impl Write, agreed: u64, tried: u64) -> io::Result<()> {
+    writeln!(out, ": {agreed} of {tried} agree")
 }
 
 // A line with a name.
-pub fn report(name: &[u8], agreed: u64, tried: u64) {
-    io::write_all(STDOUT_FILENO, name);
-    end_line(agreed, tried);
+pub fn report(rt: &impl Print, name: &[u8], agreed: u64, tried: u64) -> io::Result<()> {
+    let mut out = io::writer(rt);
+    out.write_all(name)?;
+    end_line(&mut out, agreed, tried)
 }
 
 // The line of document 01's marked case K.
-pub fn report_marked(k: u64, agreed: u64, tried: u64) {
-    io::write_all(STDOUT_FILENO, b"K");
-    io::print_decimal(STDOUT_FILENO, k);
-    end_line(agreed, tried);
+pub fn report_marked(rt: &impl Print, k: u64, agreed: u64, tried: u64) -> io::Result<()> {
+    let mut out = io::writer(rt);
+    write!(out, "K{k}")?;
+    end_line(&mut out, agreed, tried)
 }

@@ -7,7 +7,9 @@ mod groups;
 mod marked;
 mod words;
 
-fn main() {
-    marked::run();
-    words::run();
+use std::io;
+
+fn main(rt: HostRuntime) -> io::Result<()> {
+    marked::run(&rt)?;
+    words::run(&rt)
 }

@@ -11,6 +11,7 @@ use known_compare::tally::count;
 use known_report::report::report_marked;
 use octets_le::write_le;
 use octets_slice::same;
+use std::io;
 use vector_execute::execute::execute;
 use vector_kind::Kind;
 use vector_registers::settings::Settings;
@@ -72,19 +73,32 @@ fn element_becomes(word: u32, sew: u32, a: u64, b: u64, element: u64) -> bool
 }
 
 // Elements a by b.
-fn carryless(k: u64, sew: u32, a: u64, b: u64, low: u64, high: u64)
+fn carryless(
+    rt: &impl Print,
+    k: u64,
+    sew: u32,
+    a: u64,
+    b: u64,
+    low: u64,
+    high: u64,
+) -> io::Result<()>
     requires { sew ≤ 64 }
 {
     let n = count(0, element_becomes(VCLMUL, sew, a, b, low));
-    report_marked(k, count(n, element_becomes(VCLMULH, sew, a, b, high)), 2);
+    report_marked(
+        rt,
+        k,
+        count(n, element_becomes(VCLMULH, sew, a, b, high)),
+        2,
+    )
 }
 
-fn elements() {
-    carryless(1, 8, 0x03, 0x03, 0x05, 0x00);
-    carryless(2, 8, 0xFF, 0xFF, 0x55, 0x55);
-    carryless(3, 8, 0x80, 0x80, 0x00, 0x40);
-    carryless(4, 8, 0x80, 0x02, 0x00, 0x01);
-    carryless(5, 16, 0xFFFF, 0xFFFF, 0x5555, 0x5555);
+fn elements(rt: &impl Print) -> io::Result<()> {
+    carryless(rt, 1, 8, 0x03, 0x03, 0x05, 0x00)?;
+    carryless(rt, 2, 8, 0xFF, 0xFF, 0x55, 0x55)?;
+    carryless(rt, 3, 8, 0x80, 0x80, 0x00, 0x40)?;
+    carryless(rt, 4, 8, 0x80, 0x02, 0x00, 0x01)?;
+    carryless(rt, 5, 16, 0xFFFF, 0xFFFF, 0x5555, 0x5555)
 }
 
 // vghsh.vv with vd 4, vs2 8, vs1 12.
@@ -99,11 +113,11 @@ fn is_k12(w: Word) -> bool
     false
 }
 
-fn word() {
-    report_marked(12, count(0, is_k12(decode(0xB2862277))), 1);
+fn word(rt: &impl Print) -> io::Result<()> {
+    report_marked(rt, 12, count(0, is_k12(decode(0xB2862277))), 1)
 }
 
-pub fn run() {
-    elements();
-    word();
+pub fn run(rt: &impl Print) -> io::Result<()> {
+    elements(rt)?;
+    word(rt)
 }

@@ -12,6 +12,8 @@ use known_report::data_file::read;
 use known_report::report::report;
 use octets_le::read_le;
 use octets_slice::{part_end, put, same};
+use std::io;
+use std::rt::Files;
 use vector_execute::execute::execute;
 
 // The group of the records that ask for a register group.
@@ -117,34 +119,34 @@ fn records(group: u32, s: &[u8]) -> u64 {
     n
 }
 
-fn line(name: &[u8], group: u32, tried: u64, s: &[u8]) {
-    report(name, records(group, s), tried);
+fn line(rt: &impl Print, name: &[u8], group: u32, tried: u64, s: &[u8]) -> io::Result<()> {
+    report(rt, name, records(group, s), tried)
 }
 
-fn refusals(s: &[u8]) {
-    line(b"vl = VLMAX and VLMAX + 1", 0, 9, s);
-    line(b"vl and vstart of a GHASH word", 1, 36, s);
-    line(b"Register 31 with LMUL 1 and 2", 2, 8, s);
-    line(b"VLEN, SEW, LMUL and the length of the file", 3, 28, s);
-    line(b"Numbers 2, 7 and 8", 4, 61, s);
-    line(b"The smallest of several numbers", 5, 8, s);
+fn refusals(rt: &impl Print, s: &[u8]) -> io::Result<()> {
+    line(rt, b"vl = VLMAX and VLMAX + 1", 0, 9, s)?;
+    line(rt, b"vl and vstart of a GHASH word", 1, 36, s)?;
+    line(rt, b"Register 31 with LMUL 1 and 2", 2, 8, s)?;
+    line(rt, b"VLEN, SEW, LMUL and the length of the file", 3, 28, s)?;
+    line(rt, b"Numbers 2, 7 and 8", 4, 61, s)?;
+    line(rt, b"The smallest of several numbers", 5, 8, s)
 }
 
-fn values(s: &[u8]) {
-    line(b"Carry-less words, with and without a mask", 6, 36, s);
-    line(b"Scalars of .vx words", 7, 32, s);
-    line(b"GHASH words", 8, 28, s);
-    line(b"Register groups, asked for and written", GROUPS, 21, s);
-    line(b"Tail and mask policies", 10, 87, s);
+fn values(rt: &impl Print, s: &[u8]) -> io::Result<()> {
+    line(rt, b"Carry-less words, with and without a mask", 6, 36, s)?;
+    line(rt, b"Scalars of .vx words", 7, 32, s)?;
+    line(rt, b"GHASH words", 8, 28, s)?;
+    line(rt, b"Register groups, asked for and written", GROUPS, 21, s)?;
+    line(rt, b"Tail and mask policies", 10, 87, s)
 }
 
-fn all(s: &[u8]) {
-    refusals(s);
-    values(s);
+fn all(rt: &impl Print, s: &[u8]) -> io::Result<()> {
+    refusals(rt, s)?;
+    values(rt, s)
 }
 
-pub fn run() {
-    let mut buffer = io::large_buffer();
-    let n = read(b"words.bin", &mut buffer);
-    all(&buffer[..n]);
+pub fn run(rt: &(impl Files + Print + Eprint)) -> io::Result<()> {
+    let mut buffer = [0u8; 65536];
+    let n = read(rt, b"words.bin", &mut buffer);
+    all(rt, &buffer[..n])
 }

@@ -1,5 +1,5 @@
 // A reader of a trace, which keeps hold of the lent trace and its place in it: document 01, "The form each place takes". Each
-// function over the struct is proved by a walk of its code by hand, and leaves the work to a function on slice and number.
+// function over the struct leaves the work to a function on slice and number.
 #![tactic(auto)]
 
 ghost use Rattle.std.specs.Prelude.{◌≡◌};

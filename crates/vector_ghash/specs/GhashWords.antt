@@ -20,12 +20,12 @@ abbrev pub multiplier_of : GhashMultiplier → Fields → Settings → List ℕ 
 multiplier_of YXorX f s file i = bit_xor (group s file f.vd i) (group s file f.vs1 i)
 multiplier_of YAlone f s file i = group s file f.vd i
 
--- a.vv word: H is group i of vs2
+-- a .vv word: H is group i of vs2
 unfoldable pub vv_step : GhashMultiplier → Fields → Settings → ℕ → List ℕ → List ℕ
 vv_step m f s i file =
     put_block file (block_place s.vlen f.vd i) (product (multiplier_of m f s file i) (group s file f.vs2 i))
 
--- a.vs word: H is given
+-- a .vs word: H is given
 unfoldable pub vs_step : ℕ → GhashMultiplier → Fields → Settings → ℕ → List ℕ → List ℕ
 vs_step h m f s i file =
     put_block file (block_place s.vlen f.vd i) (product (multiplier_of m f s file i) h)

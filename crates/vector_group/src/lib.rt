@@ -9,6 +9,7 @@ use vector_registers::settings::{
 };
 
 // The separate question: 1 as in the table, 3 if LMUL isn't allowed, 6 if the register is over 31 or no multiple of LMUL, else 0.
+#[tactic(auto, unfolding(crate::specs::Group::group_refusal))]
 pub fn group_refusal(vlen: u32, file_len: usize, lmul: u32, register: u32) -> u32
     ensures { result ≡ group_refusal vlen file_len lmul register }
 {

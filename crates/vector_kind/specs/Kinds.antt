@@ -47,7 +47,7 @@ is_ghash k = ghashes (traits k).operation
 abbrev pub is_vv : Kind → Bool
 is_vv k = vector_vector (traits k).form
 
--- a.vs word: vs2 is the key alone, and no group
+-- a .vs word: vs2 is the key alone, and no group
 abbrev pub is_vs : Kind → Bool
 is_vs k = vector_scalar (traits k).form
 

@@ -38,7 +38,7 @@ digit d = 48 + d
 abbrev pub decimal : ℕ → List ℕ
 decimal n = cond (ltb n 10) (digit n ∷ []) (digit (n / 10) ∷ digit (n % 10) ∷ [])
 
--- the third operand where vs1 is no register group: rs1 in a.vx word, and none in vgmul
+-- the third operand where vs1 is no register group: rs1 in a .vx word, and none in vgmul
 abbrev pub third_in : Form → Third
 third_in Vv = Nothing
 third_in Vx = Rs1

@@ -26,7 +26,7 @@ applies6 k f s =
     misaligned s.lmul f.vd
     || ((not (is_vs k) && misaligned s.lmul f.vs2) || (has_vs1_group k && misaligned s.lmul f.vs1))
 
--- a.vs word and vd ≤ vs2 < vd + LMUL (document 02, Ask 4)
+-- a .vs word and vd ≤ vs2 < vd + LMUL (document 02, Ask 4)
 abbrev pub applies7 : Kind → Fields → Settings → Bool
 applies7 k f s = is_vs k && occupies s.lmul f.vd f.vs2
 

@@ -93,6 +93,7 @@ fn applies_8(k: Kind, f: Fields) -> bool
 // ---- the smallest that applies, or 0
 
 // The number of a word of this kind with these fields, 3 to 8, or 0.
+#[tactic(auto, unfolding(crate::specs::Refusal::refusal_of_known))]
 fn refusal_of_known(k: Kind, f: Fields, s: Settings) -> u32
     ensures { result ≡ refusal_of_known k f s }
 {
@@ -138,6 +139,7 @@ pub fn refusal_of(file_len: usize, w: Word, s: Settings) -> u32
 }
 
 // The same of a word.
+#[tactic(auto, unfolding(crate::specs::Refusal::refusal_of))]
 pub fn refusal(file_len: usize, word: u32, s: Settings) -> u32
     ensures { result ≡ refusal_of file_len word s }
 {

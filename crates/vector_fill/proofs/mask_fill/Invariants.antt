@@ -1,0 +1,20 @@
+-- `mask_fill` does the elements vstart to vl - 1, if the mask is agnostic. The loop's invariant is what is left, in the file as it stands.
+-- Assumes nothing.
+use Prim.Native.Nat.{◌-◌}
+use mathlib.Core.Path.{◌≡◌, refl, ◌∙◌}
+use native.Mathlib.Omega.{arith}
+use lib.ListN.{length}
+use borrow.Author.Rules.{rules}
+use borrow.Author.Tests.{not-true, not-false}
+use Rattle.vector_word.proofs.Tests.{pick-here}
+use Rattle.vector_element.specs.Steps.{steps}
+use Rattle.vector_element.proofs.Steps.{turn, none_left}
+use Rattle.vector_fill.specs.Fill.{mask_step, mask_filled}
+use Rattle.vector_fill.proofs.mask_fill.Given as goal
+
+abbrev pub invariant-loop-i : goal.invariant-loop-i
+invariant-loop-i l =
+    (length l.file ≡ length l.initial.file) × (steps (mask_step l.f l.s) (l.to - l.i) l.i l.file ≡ steps (mask_step l.f l.s) (l.to - l.initial.i) l.initial.i l.initial.file)
+
+abbrev pub decreases-loop-i : goal.decreases-loop-i
+decreases-loop-i l = l.to - l.i

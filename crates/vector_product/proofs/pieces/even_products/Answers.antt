@@ -1,0 +1,16 @@
+-- `even_products` adds two entries of the window: the low four bits of the piece, and the high four moved up.
+-- Assumes nothing.
+use mathlib.Core.Path.{ap₂, ◌∙◌}
+use Prim.Native.Nat.{ℕ, ◌*◌, ◌/◌, ◌%◌, ◌^◌}
+use native.Mathlib.Nat.{mod-lt}
+use lib.Bits.{bit_xor}
+use lib.Pow.{pow_pos}
+use borrow.Author.Rules.{rules}
+use Rattle.vector_product.proofs.Lanes.{looked-up}
+use Rattle.vector_product.proofs.pieces.even_products.Goals as goal
+
+pub returns : goal.returns
+returns c a window =
+    let b = c.args.b in
+    ap₂ (λ (x y : ℕ). bit_xor x (y * 2 ^ 4 % 2 ^ 64)) (window.entry (b % 2 ^ 4) (mod-lt b (pow_pos 4))) (window.entry (b / 2 ^ 4 % 2 ^ 4) (mod-lt (b / 2 ^ 4) (pow_pos 4)))
+    ∙ looked-up a b
