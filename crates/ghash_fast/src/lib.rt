@@ -1,6 +1,6 @@
 // The fast product: four coefficients at a time, with the key's multiples in the tables of `ghash_tables`.
 //
-// U.H is the sum of U's four quarters of 32 coefficients, quarter q times H·x^(32·q), so that one chain of 8 steps
+// U·H is the sum of U's four quarters of 32 coefficients, quarter q times H·x^(32·q), so that one chain of 8 steps
 // serves all four. A step takes four coefficients of each quarter, from the last to the first: Z := Z·x^4 xor an
 // entry of each table.
 #![tactic(auto)]
@@ -47,7 +47,7 @@ fn entries(t: &[u64; TABLES], a: u64, b: u64, c: u64, d: u64) -> Block
     first.xor(entry(t, 2, c).xor(entry(t, 3, d)))
 }
 
-// U.H on the fast path, with the tables of H. The entries of a step are read one step ahead, so that the chain does
+// U·H on the fast path, with the tables of H. The entries of a step are read one step ahead, so that the chain does
 // not wait for them.
 pub fn product_fast(t: &[u64; TABLES], u: Block) -> Block
     ensures { (h : ℕ) → TableOf h t.now → value_of result ≡ product (value_of u) h }

@@ -33,7 +33,7 @@ fn coefficient(u: Block, k: u64) -> u64
     (u.1 >> (127 - k)) % 2
 }
 
-// U.H on the plain path.
+// U·H on the plain path.
 pub fn product_plain(u: Block, h: Key) -> Block
     ensures { value_of result ≡ product (value_of u) (key_of h) }
 {
