@@ -23,7 +23,7 @@ unfoldable pub sum_of : ℕ → ℕ → ℕ → ℕ → ℕ → ℕ
 sum_of m R u h zero = 0
 sum_of m R u h (suc k) = bit_xor (sum_of m R u h k) (coeff_of m u k * shifted_of R h k)
 
--- U-as-H: Z at the end, after all the places 0 to m
+-- U·H: Z at the end, after all the places 0 to m
 unfoldable pub product_of : ℕ → ℕ → ℕ → ℕ → ℕ
 product_of m R u h = sum_of m R u h (suc m)
 

@@ -18,7 +18,7 @@ fn products(rt: &impl Print, k: u64, block: &[u8], key: &[u8], expected: Block) 
     )
 }
 
-// U.H on both paths; U and H by their first and last byte, with zeros between.
+// U·H on both paths; U and H by their first and last byte, with zeros between.
 fn product(
     rt: &impl Print,
     k: u64,

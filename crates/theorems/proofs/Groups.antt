@@ -1,5 +1,5 @@
 -- A GHASH word's fold: each group in range gets the product computed from the file at entry, and every other byte stays. vd may be vs1
--- or vs2: group i is read before it is written, and no later one reads it. The key of a.vs word is read once, before any write.
+-- or vs2: group i is read before it is written, and no later one reads it. The key of a .vs word is read once, before any write.
 -- Assumes nothing.
 use mathlib.Core.Bool.{true}
 use mathlib.Core.List.{List}

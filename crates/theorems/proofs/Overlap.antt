@@ -1,4 +1,4 @@
--- Refusal 7 is the overlap of vd's group with the key (`seven-is-overlap`), so no write of a.vs word that is done touches the key
+-- Refusal 7 is the overlap of vd's group with the key (`seven-is-overlap`), so no write of a .vs word that is done touches the key
 -- (`writes-miss-key`, `key-stays`).
 -- Assumes nothing.
 use mathlib.Core.Bool.{Bool, true, false, true≢false, cond, not, ◌&&◌}

@@ -84,7 +84,7 @@ pub record PlacesInFile (file_length : ℕ) (k : Kind) (f : Fields) (s : Setting
   pub vd : (i : ℕ) → i < past_unit k s → place_in k s f.vd i + unit_bytes k s ≤ file_length
   pub vs1 : has_vs1_group k ≡ true → (i : ℕ) → i < past_unit k s → place_in k s f.vs1 i + unit_bytes k s ≤ file_length
   pub vs2 : is_vs k ≡ false → (i : ℕ) → i < past_unit k s → place_in k s f.vs2 i + unit_bytes k s ≤ file_length
-  -- the key of a.vs word: group 0 of vs2
+  -- the key of a .vs word: group 0 of vs2
   pub key : is_vs k ≡ true → block_place s.vlen f.vs2 0 + 16 ≤ file_length
   -- vd's group, which the tail policy fills up to its end
   pub tail : (p : ℕ) → InVdGroup f s p → p < file_length

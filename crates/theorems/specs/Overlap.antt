@@ -1,5 +1,5 @@
--- Refusal 7 and the key of a.vs word. The rule is source 002's reserved encoding, "the vd register group overlaps the vs2 scalar element
--- group" (`SevenIsOverlap`). So in a.vs word that is done no write touches the key (`WritesMissKey`), and the key that the word reads once,
+-- Refusal 7 and the key of a .vs word. The rule is source 002's reserved encoding, "the vd register group overlaps the vs2 scalar element
+-- group" (`SevenIsOverlap`). So in a .vs word that is done no write touches the key (`WritesMissKey`), and the key that the word reads once,
 -- before any write, is also the one that stands in the file after each step and after the word (`KeyStays`).
 -- Assumes nothing.
 use Rattle.std.specs.Prelude.{ℕ, ◌-◌, ◌/◌, ◌<◌, ◌≤◌, true, List, ◌≡◌, length}
@@ -25,7 +25,7 @@ key_bytes = 16
 abbrev pub InKey : Fields → Settings → ℕ → Type 0
 InKey f s p = Within (block_place s.vlen f.vs2 0) key_bytes p
 
--- a.vs word, and some byte of its key is one of vd's register group
+-- a .vs word, and some byte of its key is one of vd's register group
 abbrev pub KeyOverlaps : Kind → Fields → Settings → Type 0
 KeyOverlaps k f s = (is_vs k ≡ true) × (p : ℕ) × InKey f s p × InVdGroup f s p
 
@@ -36,7 +36,7 @@ SevenIsOverlap =
     → ((0 < refusal_of file_length word s) × (refusal_of file_length word s < 7) → ⊥)
     → (refusal_of file_length word s ≡ 7 → KeyOverlaps k f s) × (KeyOverlaps k f s → refusal_of file_length word s ≡ 7)
 
--- in a.vs word that is done no byte of vd's group, where all writes are (`Policies: OnlyVdGroup`), is one of the key's
+-- in a .vs word that is done no byte of vd's group, where all writes are (`Policies: OnlyVdGroup`), is one of the key's
 abbrev pub WritesMissKey : Type 0
 WritesMissKey =
     (file_length word : ℕ) (s : Settings) → refusal_of file_length word s ≡ 0

@@ -378,7 +378,7 @@ table =
     ∷ known VghshVs 1 4 8 13 (settings 128 32 2 4 0) 6
     ∷ known VgmulVv 1 4 8 17 (settings 128 32 2 4 0) 0
     ∷ known VgmulVs 1 4 8 17 (settings 128 32 2 4 0) 0
-    -- 7: a.vs word and vd ≤ vs2 < vd + LMUL. The register before the group, its first, its last, and the register after it
+    -- 7: a .vs word and vd ≤ vs2 < vd + LMUL. The register before the group, its first, its last, and the register after it
     ∷ known VghshVs 1 8 7 24 (settings 128 32 1 4 0) 0
     ∷ known VghshVs 1 8 8 24 (settings 128 32 1 4 0) 7
     ∷ known VghshVs 1 8 9 24 (settings 128 32 1 4 0) 0

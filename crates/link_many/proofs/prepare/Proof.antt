@@ -1,4 +1,4 @@
--- `prepare` makes the tables of H, with them H² and L-as-H, and then the tables of H². Assumes nothing.
+-- `prepare` makes the tables of H, with them H² and L·H, and then the tables of H². Assumes nothing.
 use mathlib.Core.List.{List}
 use mathlib.Core.Path.{◌≡◌, ap, subst, ◌∙◌}
 use Prim.Native.Nat.{ℕ, ◌^◌, ◌<◌}
