@@ -104,7 +104,7 @@ def of_library():
     """What crates/rvghash exports, in C's types."""
     functions = {}
     for path in glob.glob("crates/rvghash/src/**/*.rt", recursive=True):
-        pattern = r'#\[no_mangle\]\s*pub extern "C" fn (\w+)\(([^)]*)\)(?: -> (\S+))?'
+        pattern = r'#\[unsafe\(no_mangle\)\]\s*pub extern "C" fn (\w+)\(([^)]*)\)(?: -> (\S+))?'
         for name, parameters, answer in re.findall(pattern, read(path)):
             pairs = [re.split(r":\s*", part) for part in comma_parts(parameters)]
             functions[name] = (NUMBER_TYPES[answer or "()"], [c for pair in pairs for c in rattle_parameter(*pair)])
@@ -130,7 +130,7 @@ def of_oracle():
 
 def struct_fields(path):
     """The fields of the #[repr(C)] struct Running in this file, in C's types."""
-    text = re.search(r"#\[repr\(C\)\]\s*pub struct Running \{(.*?)\}", read(path), re.S)
+    text = re.search(r"#\[repr\(C\)\]\s*(?:#\[[^\]]*\]\s*)*pub struct Running \{(.*?)\}", read(path), re.S)
     fields = []
     for name, kind in re.findall(r"pub (\w+): ([^,\n]+),", text[1] if text else ""):
         array = re.fullmatch(r"\[(\w+); (\d+)\]", kind)
@@ -178,7 +178,7 @@ def number_differences(header, numbers):
 
 def kinds_of_library():
     """The kinds' numbers in the library's definition, by their names in C: VclmulVv is RVGHASH_VCLMUL_VV."""
-    clauses = re.findall(r"^kindNumber (\w+) = (\d+)$", read(KINDS_SOURCE), re.M)
+    clauses = re.findall(r"^kind_number (\w+) = (\d+)$", read(KINDS_SOURCE), re.M)
     return [("RVGHASH_" + re.sub(r"\B(?=[A-Z])", "_", name).upper(), number) for name, number in clauses]
 
 

@@ -16,7 +16,7 @@ import sys
 
 PAGE = "docs/STATEMENTS.md"
 LITERALS = {"requires", "&mut", "out", "memset", "axioms=", "logic-built=trusted", "libraries-built=trusted",
-            "logic-built=trusted libraries-built=trusted", "rt ci", "rt staticlib rvghash", "rt version", "librvghash.a",
+            "logic-built=trusted libraries-built=trusted", "rt ci", "rt lib", "rt version", "librvghash.a",
             "struct rvghash_running", "NULL", "N passed, 0 failed"}
 MODIFIERS = r"(?:(?:unfoldable|abbrev|pub|private|data|record) )*"
 

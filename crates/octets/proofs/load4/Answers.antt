@@ -5,7 +5,6 @@ use native.Mathlib.Nat.{add-zero}
 use native.Mathlib.Omega.{arith}
 use lib.ListN.{get_or}
 use Rattle.octets.specs.BigEndian.{be_at}
-use borrow.Author.Rules.{rules}
 use Rattle.octets.proofs.load4.Goals as goal
 
 pub returns : goal.returns

@@ -2,7 +2,6 @@
 use mathlib.Core.Path.{sym, ap₂, ◌∙◌}
 use Prim.Native.Nat.{ℕ, ◌+◌, ◌*◌, ◌^◌}
 use Rattle.octets.proofs.BigEndian.{be_at-split}
-use borrow.Author.Rules.{rules}
 use Rattle.octets.proofs.load8.Goals as goal
 
 pub returns : goal.returns

@@ -1,8 +1,7 @@
 -- `load8_padded` meets its contract. The loop's invariant: v is the number of the i bytes read.
 -- Assumes nothing.
-use borrow.Author.Rules.{rules}
 use mathlib.Core.Path.{◌≡◌, refl, sym, ap, ap₂, ◌∙◌, subst}
-use Prim.Native.Nat.{ℕ, ◌+◌, ◌-◌, ◌*◌, ◌^◌, ◌≤◌, ◌<◌}
+use Prim.Native.Nat.{ℕ, ◌+◌, ◌*◌, ◌^◌, ◌≤◌, ◌<◌}
 use native.Mathlib.Omega.{arith}
 use native.Mathlib.Nat.{lt_of_lt_of_le, pow-le-pow_right, zero-lt-suc}
 use mathlib.Core.List.{List}
@@ -27,7 +26,7 @@ pub overflow_add-at : goal.overflow_add-at
 overflow_add-at c = omega arith
 
 pub overflow_add-v : goal.overflow_add-v
-overflow_add-v c = 
+overflow_add-v c =
     omega (
       arith,
       room c.args.s.now (λ j. (c.type_inv.s j).fits) c.args.at c.loop-i.i c.loop-i.v (omega arith) c.loop-i.invariant.1,

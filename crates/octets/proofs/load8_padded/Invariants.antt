@@ -1,12 +1,8 @@
 -- `load8_padded` meets its contract. The loop's invariant: v is the number of the i bytes read.
 -- Assumes nothing.
-use borrow.Author.Rules.{rules}
-use mathlib.Core.Path.{◌≡◌, refl, sym, ap, ap₂, ◌∙◌, subst}
-use Prim.Native.Nat.{ℕ, ◌+◌, ◌-◌, ◌*◌, ◌^◌, ◌≤◌, ◌<◌}
-use native.Mathlib.Omega.{arith}
-use native.Mathlib.Nat.{lt_of_lt_of_le, pow-le-pow_right, zero-lt-suc}
+use mathlib.Core.Path.{◌≡◌}
+use Prim.Native.Nat.{◌-◌, ◌≤◌}
 use Rattle.octets.specs.BigEndian.{be_at}
-use Rattle.octets.proofs.BigEndian.{be_at-next, be_at-lt}
 use Rattle.octets.proofs.load8_padded.Given as goal
 
 abbrev pub invariant-loop-i : goal.invariant-loop-i

@@ -5,7 +5,6 @@ use native.Mathlib.Numerals.{add-one}
 use native.Mathlib.Omega.{arith}
 use lib.ListN.{set, length-set}
 use Rattle.octets.specs.BigEndian.{be_bytes}
-use borrow.Author.Rules.{rules}
 use Rattle.octets.proofs.store2.Goals as goal
 
 pub bounds-s-at-2 : goal.bounds-s-at-2

@@ -5,7 +5,6 @@ use Prim.Native.Nat.{ℕ, ◌+◌}
 use lib.Seq.{sets}
 use Rattle.octets.specs.BigEndian.{be_bytes}
 use Rattle.octets.proofs.BigEndian.{sets-split}
-use borrow.Author.Rules.{rules}
 use Rattle.octets.proofs.store4.Goals as goal
 
 pub returns : goal.returns

@@ -1,7 +1,6 @@
 -- `put_byte` sets a byte; past the end nothing changes. Assumes nothing.
 use mathlib.Core.Path.{sym}
 use lib.Seq.{set_out}
-use borrow.Author.Rules.{rules}
 use Rattle.octets_le.proofs.put_byte.Goals as goal
 
 pub returns-else-at-s : goal.returns-else-at-s

@@ -1,12 +1,11 @@
 -- `write_le` writes the n low bytes of a number. The loop's invariant is what is left: to write the bytes that are left
 -- from place i on to the slice as it stands is to write all of them to the slice at entry.
 -- Assumes nothing.
-use Prim.Native.Nat.{ℕ, ◌+◌, ◌-◌, ◌%◌, ◌/◌, ◌≤◌, ◌<◌}
+use Prim.Native.Nat.{ℕ, ◌+◌, ◌-◌, ◌%◌, ◌/◌, ◌<◌}
 use mathlib.Core.List.{List}
 use mathlib.Core.Path.{◌≡◌, refl, sym, ap, ap₂, ◌∙◌}
 use native.Mathlib.Nat.{add-zero, sub-zero}
 use native.Mathlib.Omega.{arith}
-use borrow.Author.Rules.{rules}
 use lib.ListN.{length, set, length-set}
 use Rattle.octets.specs.LittleEndian.{write_le}
 use Rattle.octets.proofs.LittleEndian.{write-past, write-more}
