@@ -84,8 +84,8 @@ module _
     abbrev Is : ℕ → Type 0
     Is n = refusal_of file_length word s ≡ n
 
-    no : (n : ℕ) → 0 < n → n < 7 → Is n → ⊥
-    no n low high e = none (omega arith, omega arith)
+    no_number : (n : ℕ) → 0 < n → n < 7 → Is n → ⊥
+    no_number n low high e = none (omega arith, omega arith)
 
     abbrev rest : ℕ
     rest = cond (applies8 k f) 8 0
@@ -93,8 +93,8 @@ module _
     left : Ready file_length s × Is (cond (applies7 k f s) 7 rest)
     unfolding refusal_of
     left =
-        let p1 = passed-by Is (applies1 file_length s.vlen) 1 (refusal_of_word (decode word) s) (no 1 (omega arith) (omega arith)) refl in
-        let p = past-six Is k f s no (subst (λ (w : Word). Is (refusal_of_word w s)) known p1.1) in
+        let p1 = passed-by Is (applies1 file_length s.vlen) 1 (refusal_of_word (decode word) s) (no_number 1 (omega arith) (omega arith)) refl in
+        let p = past-six Is k f s no_number (subst (λ (w : Word). Is (refusal_of_word w s)) known p1.1) in
         (ready file_length s p1.0 p.0, p.4)
 
     applied : Is 7 → applies7 k f s ≡ true

@@ -43,7 +43,9 @@ differ-before (z ∷ zs) xs ys d =
       place = suc r.place;
       inside = suc-le-suc r.inside;
       differs = r.differs;
-      agrees = λ k. elim k [ zero ↦ (λ n. refl) | suc j ↦ (λ n. r.agrees j (λ q. n (ap suc q))) ];
+      agrees =
+          λ k. elim k as (λ k. (k ≡ suc r.place → ⊥) → get_or (z ∷ (zs ++ xs)) k 0 ≡ get_or (z ∷ (zs ++ ys)) k 0)
+          [ zero ↦ (λ n. refl) | suc j ↦ (λ n. r.agrees j (λ q. n (ap suc q))) ];
     }
 
 append-same : (xs ys zs : List ℕ) → length xs ≡ length ys → (k : ℕ) → get_or xs k 0 ≡ get_or ys k 0 → get_or (xs ++ zs) k 0 ≡ get_or (ys ++ zs) k 0
