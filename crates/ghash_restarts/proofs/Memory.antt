@@ -4,7 +4,6 @@
 use Prim.Native.Nat.{ℕ}
 use mathlib.Core.List.{List}
 use mir.Val.{Val}
-use borrow.Author.Rules.{length_unmapped}
 use denote.Laws.{Is}
 use denote.Struct.Laws as LL
 use Rattle.gf128.proofs.Halves.{halves_lt}
@@ -22,5 +21,5 @@ held-in-memory s vs is =
     let halves = LL.owed B.the_type B'.the_laws s.y _ fields.0 in
     record {
       y = halves_lt 64 s.y.0 s.y.1 halves.0.1 halves.1.0.1;
-      block = length_unmapped ℕ s.open_block 16 fields.1.0.1.0.1;
+      block = fields.1.0.1.0.1;
     }
