@@ -1,15 +1,10 @@
--- The hash of one block as A (`one_block`), with an empty C, by one product with the key's square: `hash-by-square`. Blocks compared by
--- their halves: `same-halves`. Assumes nothing.
-use mathlib.Core.Bool.{◌&&◌}
-use mathlib.Core.Path.{◌≡◌, sym, ap, ap₂, ◌∙◌}
+-- The hash of one block as A (`one_block`), with an empty C, by one product with the key's square: `hash-by-square`.
+-- Assumes nothing.
+use mathlib.Core.Path.{◌≡◌, ap, ap₂, ◌∙◌}
 use mathlib.Core.List.{List, [], ◌∷◌}
-use Prim.Native.Nat.{ℕ, ◌+◌, ◌*◌, ◌/◌, ◌%◌, ◌^◌, ◌<◌}
-use native.Mathlib.Decide.{ℕ_discrete}
+use Prim.Native.Nat.{ℕ, ◌+◌, ◌/◌, ◌^◌, ◌<◌}
 use native.Mathlib.Omega.{arith}
-use borrow.Author.Tests.{eq-eqb, ne_eqb}
-use lib.Arith.{digits_div, digits_mod}
 use lib.Bits.{bit_xor}
-use lib.Dec.{eqb}
 use lib.ListN.{length}
 use Rattle.gf128.specs.Bytes.{block_at}
 use Rattle.gf128.specs.Field.{product}
@@ -35,17 +30,3 @@ hash-by-square h a hh e =
     ∙ ap₂ (λ (y : ℕ) (n : ℕ). next h y (length_block n 0)) (ap₂ (λ (p q : List ℕ). over h (over h 0 p) q) (one_block a e) blocks_of-empty) e
     ∙ product-xor-left (product x h) l h
     ∙ ap (λ (v : ℕ). bit_xor v (product l h)) (product-assoc x h h hh hh)
-
--- two numbers of two digits are the same where both digits are
-pub same-halves : (n a b r s : ℕ) → r < n → s < n → (eqb a b && eqb r s) ≡ eqb (a * n + r) (b * n + s)
-same-halves n a b r s hr hs = go (ℕ_discrete a b) (ℕ_discrete r s)
-  where
-    go : Dec (a ≡ b) → Dec (r ≡ s) → (eqb a b && eqb r s) ≡ eqb (a * n + r) (b * n + s)
-    go (yes p) (yes q) =
-        rw (eq-eqb a b p, eq-eqb r s q) (sym (eq-eqb (a * n + r) (b * n + s) (ap₂ (λ (x y : ℕ). x * n + y) p q)))
-    go (yes p) (no q) =
-        rw (eq-eqb a b p, ne_eqb r s q)
-        (sym (ne_eqb (a * n + r) (b * n + s) (λ e. q (sym (digits_mod a hr) ∙ ap (λ (x : ℕ). x % n) e ∙ digits_mod b hs))))
-    go (no p) q =
-        rw (ne_eqb a b p)
-        (sym (ne_eqb (a * n + r) (b * n + s) (λ e. p (sym (digits_div a hr) ∙ ap (λ (x : ℕ). x / n) e ∙ digits_div b hs))))
