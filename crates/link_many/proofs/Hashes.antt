@@ -24,7 +24,7 @@ one_block a e =
     let n : (length a + 15) / 16 ≡ 1 = omega arith in
     ap (blocks_from a 0) n
 
--- (X-as-H xor L)·H is X-as-H² xor L-as-H
+-- (X·H xor L)·H is X·H² xor L·H
 pub hash-by-square : (h : ℕ) (a : List ℕ) → h < 2 ^ 128 → length a ≡ 16
     → ghash h a [] ≡ bit_xor (product (block_at a 0) (product h h)) (product (length_block 16 0) h)
 unfolding over next
