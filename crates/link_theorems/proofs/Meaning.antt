@@ -139,7 +139,9 @@ one-changed c c' m m' lc lc' n =
         place = 0;
         inside = zero-lt-suc 0;
         differs = λ e. n (sym (last-bytes c 0 m.bytes_a lc) ∙ ap block_bytes e ∙ last-bytes c' 0 m'.bytes_a lc');
-        agrees = λ k. elim k [ zero ↦ (λ q. absurd (q refl)) | suc j ↦ (λ q. refl) ];
+        agrees =
+            λ k. elim k as (λ k. (k ≡ 0 → ⊥) → get_or (block_at c 0 ∷ []) k 0 ≡ get_or (block_at c' 0 ∷ []) k 0)
+            [ zero ↦ (λ q. absurd (q refl)) | suc j ↦ (λ q. refl) ];
       });
     }
   where
