@@ -1,6 +1,6 @@
 -- Pieces fed one after the other. Assumes nothing.
 use mathlib.Core.List.{List, [], ◌∷◌, ◌++◌, append_assoc, append-nil}
-use mathlib.Core.Path.{◌≡◌, refl, sym, subst, ap, ◌∙◌}
+use mathlib.Core.Path.{◌≡◌, refl, sym, ap, ◌∙◌}
 use Prim.Native.Nat.{ℕ, ◌+◌, ◌-◌, ◌≤◌}
 use native.Mathlib.Omega.{arith}
 use lib.Bits.{bit_or}
@@ -8,7 +8,7 @@ use lib.ListN.{take, drop}
 use lib.Seq.{take-add}
 use Rattle.gf128.specs.Pieces.{joined, fed_all, answers, fed_all_a, answers_a, fed_all_c, answers_c, run_of}
 use Rattle.gf128.specs.Running.{State, fresh, feed_a_refusal, after_feed_a, finish_refusal, finish_block}
-use Rattle.ghash_running.specs.Answers.{FeedsA, FeedsC, Finishes}
+use Rattle.ghash_running.specs.Answers.{Finishes}
 use Rattle.ghash_running.specs.declared.Fed.{Fed}
 use Rattle.ghash_block.specs.declared.block.Block.{Block}
 use Rattle.ghash_state.specs.State.{view}
@@ -16,15 +16,6 @@ use Rattle.ghash_state.specs.declared.Running.{Running}
 use Rattle.known_hashes.specs.Pieces.{refusal_in, after_in, FeedsIn, last_or, FedIn, last_number, FedAll, InPieces}
 use Rattle.known_hashes.specs.declared.pieces.Part.{Part}
 use Rattle.known_hashes.specs.declared.pieces.Part.TheVariants.{A, C}
-
--- ---- one piece
-
-module _ (part : Part) (key piece : List ℕ) (s : Running) (r : Fed) where
-  pub feeds-a : part ≡ A → FeedsA key s piece r.number r.state → FeedsIn part key s piece r
-  feeds-a e = subst (λ (p : Part). FeedsIn p key s piece r) (sym e)
-
-  pub feeds-c : part ≡ C → FeedsC key s piece r.number r.state → FeedsIn part key s piece r
-  feeds-c e = subst (λ (p : Part). FeedsIn p key s piece r) (sym e)
 
 -- ---- one piece more
 

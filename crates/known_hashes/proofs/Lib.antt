@@ -1,2 +1,1 @@
 mod Feeding
-mod Ways

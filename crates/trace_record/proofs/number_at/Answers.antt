@@ -4,7 +4,6 @@ use Prim.Native.Nat.{◌+◌}
 use mathlib.Core.Path.{sym}
 use native.Mathlib.Omega.{arith}
 use Rattle.octets.proofs.LittleEndian.{read_past}
-use borrow.Author.Rules.{rules}
 use Rattle.trace_record.proofs.number_at.Goals as goal
 
 pub returns-then-trace-at : goal.returns-then-trace-at

@@ -1,7 +1,6 @@
 -- `record_at` gives the record at a place: each field is what stands at its place.
 -- Assumes nothing.
 use Rattle.trace_record.specs.Record.{record_at}
-use borrow.Author.Rules.{rules}
 use Rattle.trace_record.proofs.record_at.Goals as goal
 
 pub returns : goal.returns

@@ -5,7 +5,6 @@ use native.Mathlib.Nat.{lt_of_lt_of_le, pow-le-pow_right, zero-lt-suc}
 use native.Mathlib.Omega.{arith}
 use Rattle.octets.specs.Bytes.{AreBytes}
 use Rattle.octets.proofs.LittleEndian.{read-lt}
-use borrow.Author.Rules.{rules}
 use Rattle.trace_record.proofs.short_at.Goals as goal
 
 pub overflow_cast-result : goal.overflow_cast-result

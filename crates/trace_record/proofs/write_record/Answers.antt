@@ -2,11 +2,10 @@
 -- Assumes nothing.
 use mathlib.Core.Path.{refl, sym, ◌∙◌}
 use lib.ListN.{length}
-use borrow.Author.Tests.{eq-eqb, ne_eqb}
+use borrow.Author.Tests.{eq-eqb}
 use Rattle.octets.proofs.Stores.{sets-whole}
 use Rattle.trace_record.specs.Record.{record_bytes}
 use Rattle.trace_record.proofs.Bytes.{length-record_bytes}
-use borrow.Author.Rules.{rules}
 use Rattle.trace_record.proofs.write_record.Goals as goal
 
 pub returns : goal.returns

@@ -1,9 +1,7 @@
 -- `fill` puts the pattern. The loop's invariant: it stands up to i, b is the number there, and the length is the old one.
 -- Assumes nothing.
-use Rattle.std.proofs.Common.{◌≡◌, ℕ, ◌-◌, ◌%◌, ◌<◌, ◌≤◌, length, get_or, refl, ap, ◌∙◌, arith, length-set, get_or-set_other, get_or-set_same, rules, below_none, below_more}
+use Rattle.std.proofs.Common.{◌≡◌, ℕ, ◌-◌, ◌<◌, ◌≤◌, length, get_or}
 use Rattle.known_bytes.specs.Pattern.{number_at, byte_at}
-use Rattle.known_bytes.proofs.Filled.{is-filled}
-use Rattle.known_bytes.proofs.Numbers.{number-next}
 use Rattle.known_bytes.proofs.pattern.fill.Given as goal
 
 abbrev pub invariant-loop-i : goal.invariant-loop-i
