@@ -15,8 +15,8 @@ import re
 import sys
 
 PAGE = "docs/STATEMENTS.md"
-LITERALS = {"requires", "&mut", "out", "memset", "axioms=", "logic-built=trusted", "libraries-built=trusted",
-            "logic-built=trusted libraries-built=trusted", "rt ci", "rt lib", "rt version", "librvghash.a",
+LITERALS = {"requires", "&mut", "out", "memset", "logic-built=trusted", "libraries-built=trusted",
+            "logic-built=trusted libraries-built=trusted statements=trusted", "rt ci", "rt lib", "rt version", "librvghash.a",
             "struct rvghash_running", "NULL", "N passed, 0 failed"}
 MODIFIERS = r"(?:(?:unfoldable|abbrev|pub|private|data|record) )*"
 

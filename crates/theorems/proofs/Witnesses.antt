@@ -1,7 +1,7 @@
 -- One changed byte is one changed block: `any-byte-of-a`, `any-byte-of-c`; `any-nonzero-key`; and `witnesses`, which are some of them.
 -- Assumes nothing.
 use mathlib.Core.Path.{◌≡◌, refl, sym, ap, ◌∙◌, subst}
-use mathlib.Core.Logic.{◌≢◌, ◌⊎◌, ⊎_elim}
+use mathlib.Core.Logic.{◌≢◌, ⊎_elim}
 use mathlib.Core.List.{List, [], ◌∷◌, ◌++◌}
 use Prim.Native.Nat.{ℕ, zero, suc, ◌+◌, ◌*◌, ◌/◌, ◌%◌, ◌<◌, ◌≤◌, suc-le-suc}
 use native.Mathlib.Nat.{add-zero, zero-add, mod-lt, zero-lt-suc, not-suc-le-zero, le_of_suc-le-suc, suc-ne-zero, suc_inj, eq-or-lt_of_le, ne_of_lt, le_refl}

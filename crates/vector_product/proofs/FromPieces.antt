@@ -5,7 +5,6 @@ use mathlib.Core.Path.{◌≡◌, refl, sym, ap, ap₂, ◌∙◌}
 use Prim.Native.Nat.{ℕ, zero, suc, ◌+◌, ◌*◌, ◌/◌, ◌%◌, ◌^◌, ◌<◌}
 use native.Mathlib.Nat.{lt-suc_self, le_step, le_refl, add_comm, mod-one, mul-add, mul-zero, zero-mul, mul-suc, mod-eq_of_lt}
 use lib.Bits.{bit_xor}
-use lib.Pow.{high}
 use Rattle.gf128.proofs.Halves.{shl-shl, top_digit}
 use Rattle.gf128.proofs.Xor.{xor-swap4, xor-shl}
 use Rattle.vector_product.specs.Clmul.{clmul, clmul64, low_half, high_half}

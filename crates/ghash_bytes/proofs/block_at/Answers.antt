@@ -2,7 +2,6 @@
 use mathlib.Core.Path.{sym, ap₂, ◌∙◌}
 use Prim.Native.Nat.{ℕ, ◌+◌, ◌*◌, ◌^◌}
 use Rattle.octets.proofs.BigEndian.{be_at-split, be_at-past}
-use borrow.Author.Rules.{rules}
 use Rattle.ghash_bytes.proofs.block_at.Goals as goal
 
 pub returns-then-s-at : goal.returns-then-s-at

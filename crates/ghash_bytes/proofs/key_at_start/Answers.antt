@@ -1,6 +1,5 @@
 -- `key_at_start` meets its contract: a key is read as a block is. Assumes nothing.
 use mathlib.Core.Path.{◌∙◌}
-use borrow.Author.Rules.{rules}
 use Rattle.ghash_bytes.proofs.key_at_start.Goals as goal
 
 pub returns : goal.returns

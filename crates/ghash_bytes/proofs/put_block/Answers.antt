@@ -3,12 +3,11 @@ use mathlib.Core.Path.{ap, ◌∙◌}
 use mathlib.Core.List.{List}
 use Prim.Native.Nat.{ℕ, ◌+◌}
 use native.Mathlib.Omega.{arith}
-use borrow.Author.Tests.{le-leb, lt-leb}
+use borrow.Author.Tests.{le-leb}
 use lib.ListN.{length}
 use lib.Seq.{sets}
 use Rattle.octets.specs.BigEndian.{be_bytes}
 use Rattle.octets.proofs.BigEndian.{sets-join}
-use borrow.Author.Rules.{rules}
 use Rattle.ghash_bytes.proofs.put_block.Goals as goal
 
 pub returns : goal.returns

@@ -1,12 +1,9 @@
 -- `put` puts the bytes one after the other. The loop's invariant: those before place i are put, and the length is the old one.
 -- Assumes nothing.
-use mathlib.Core.Path.{◌≡◌, refl, sym, ◌∙◌}
+use mathlib.Core.Path.{◌≡◌}
 use Prim.Native.Nat.{◌+◌, ◌≤◌, ◌-◌}
-use native.Mathlib.Omega.{arith}
-use lib.ListN.{length, length-set, take}
+use lib.ListN.{length, take}
 use lib.Seq.{sets}
-use borrow.Author.Rules.{rules}
-use Rattle.octets.proofs.Stores.{sets-past, sets-cut, sets-next}
 use Rattle.octets_slice.proofs.put.Given as goal
 
 abbrev pub invariant-loop-i : goal.invariant-loop-i

@@ -3,7 +3,6 @@
 use Prim.Native.Nat.{ℕ, ◌≤◌}
 use mathlib.Core.Bool.{Bool, true, false, cond}
 use native.Mathlib.Omega.{arith}
-use borrow.Author.Rules.{rules}
 use Rattle.trace_policy.proofs.policy_of.Goals as goal
 
 at_most : (on : Bool) (n : ℕ) → cond on n 0 ≤ n

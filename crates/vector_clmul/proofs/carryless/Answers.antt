@@ -1,11 +1,7 @@
 -- `carryless` does the elements vstart to vl - 1. The loop's invariant is what is left: the steps from i on, from the file as it
 -- stands, give what all the steps give from the file at entry.
 -- Assumes nothing.
-use Prim.Native.Nat.{◌-◌}
-use mathlib.Core.Path.{◌≡◌, refl, ◌∙◌}
-use native.Mathlib.Omega.{arith}
-use lib.ListN.{length}
-use Rattle.vector_element.specs.Steps.{steps}
+use mathlib.Core.Path.{◌∙◌}
 use Rattle.vector_clmul.specs.Carryless.{carryless, carryless_step}
 use Rattle.vector_element.proofs.Steps.{turn, none_left}
 use Rattle.vector_clmul.proofs.carryless.Goals as goal

@@ -2,12 +2,10 @@
 -- stands, give what all the steps give from the file at entry.
 -- Assumes nothing.
 use Prim.Native.Nat.{◌-◌}
-use mathlib.Core.Path.{◌≡◌, refl, ◌∙◌}
-use native.Mathlib.Omega.{arith}
+use mathlib.Core.Path.{◌≡◌}
 use lib.ListN.{length}
 use Rattle.vector_element.specs.Steps.{steps}
-use Rattle.vector_clmul.specs.Carryless.{carryless, carryless_step}
-use Rattle.vector_element.proofs.Steps.{turn, none_left}
+use Rattle.vector_clmul.specs.Carryless.{carryless_step}
 use Rattle.vector_clmul.proofs.carryless.Given as goal
 
 abbrev pub invariant-loop-i : goal.invariant-loop-i

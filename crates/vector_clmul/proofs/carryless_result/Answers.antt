@@ -3,7 +3,6 @@ use mathlib.Core.Path.{ap, ap₂, ◌∙◌}
 use Rattle.vector_product.specs.Clmul.{clmul64}
 use Rattle.vector_product.specs.Clmul.{half_of}
 use Rattle.vector_clmul.specs.Carryless.{carryless_result}
-use borrow.Author.Rules.{rules}
 use Rattle.vector_clmul.proofs.carryless_result.Goals as goal
 
 pub returns : goal.returns

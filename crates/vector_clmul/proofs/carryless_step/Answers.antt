@@ -1,10 +1,6 @@
 -- `carryless_step` does one element. Assumes nothing.
-use Prim.Native.Nat.{◌/◌, ◌≤◌}
 use mathlib.Core.Path.{sym, ◌∙◌}
-use native.Mathlib.Omega.{arith}
-use Rattle.vector_product.proofs.Sew.{sew-facts}
 use Rattle.vector_clmul.proofs.Steps.{element-written, element-left}
-use borrow.Author.Rules.{rules}
 use Rattle.vector_clmul.proofs.carryless_step.Goals as goal
 
 pub returns-then-active : goal.returns-then-active

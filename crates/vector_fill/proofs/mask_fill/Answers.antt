@@ -1,13 +1,8 @@
 -- `mask_fill` does the elements vstart to vl - 1, if the mask is agnostic. The loop's invariant is what is left, in the file as it stands.
 -- Assumes nothing.
-use Prim.Native.Nat.{◌-◌}
-use mathlib.Core.Path.{◌≡◌, refl, ◌∙◌}
-use native.Mathlib.Omega.{arith}
-use lib.ListN.{length}
-use borrow.Author.Rules.{rules}
+use mathlib.Core.Path.{refl, ◌∙◌}
 use borrow.Author.Tests.{not-true, not-false}
 use Rattle.vector_word.proofs.Tests.{pick-here}
-use Rattle.vector_element.specs.Steps.{steps}
 use Rattle.vector_element.proofs.Steps.{turn, none_left}
 use Rattle.vector_fill.specs.Fill.{mask_step, mask_filled}
 use Rattle.vector_fill.proofs.mask_fill.Goals as goal

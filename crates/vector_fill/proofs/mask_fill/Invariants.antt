@@ -1,15 +1,10 @@
 -- `mask_fill` does the elements vstart to vl - 1, if the mask is agnostic. The loop's invariant is what is left, in the file as it stands.
 -- Assumes nothing.
 use Prim.Native.Nat.{◌-◌}
-use mathlib.Core.Path.{◌≡◌, refl, ◌∙◌}
-use native.Mathlib.Omega.{arith}
+use mathlib.Core.Path.{◌≡◌}
 use lib.ListN.{length}
-use borrow.Author.Rules.{rules}
-use borrow.Author.Tests.{not-true, not-false}
-use Rattle.vector_word.proofs.Tests.{pick-here}
 use Rattle.vector_element.specs.Steps.{steps}
-use Rattle.vector_element.proofs.Steps.{turn, none_left}
-use Rattle.vector_fill.specs.Fill.{mask_step, mask_filled}
+use Rattle.vector_fill.specs.Fill.{mask_step}
 use Rattle.vector_fill.proofs.mask_fill.Given as goal
 
 abbrev pub invariant-loop-i : goal.invariant-loop-i

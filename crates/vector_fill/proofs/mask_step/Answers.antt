@@ -1,7 +1,6 @@
 -- `mask_step` leaves an active element, and writes ones bits to any other.
 -- Assumes nothing.
 use mathlib.Core.Path.{sym, ◌∙◌}
-use borrow.Author.Rules.{rules}
 use Rattle.vector_word.proofs.Tests.{pick-here, pick_next}
 use Rattle.vector_element.specs.Element.{active}
 use Rattle.vector_fill.specs.Fill.{mask_step}

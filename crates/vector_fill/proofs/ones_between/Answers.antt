@@ -1,11 +1,6 @@
 -- `ones_between` writes ones bits to a range of bytes. The loop's invariant is what is left: the bytes from p on, in the file as it stands.
 -- Assumes nothing.
-use Prim.Native.Nat.{◌-◌}
-use mathlib.Core.Path.{◌≡◌, refl, ◌∙◌}
-use native.Mathlib.Omega.{arith}
-use lib.ListN.{length}
-use borrow.Author.Rules.{rules}
-use Rattle.vector_element.specs.Steps.{steps}
+use mathlib.Core.Path.{◌∙◌}
 use Rattle.vector_element.proofs.Steps.{turn, none_left}
 use Rattle.vector_fill.specs.Fill.{ones_at, ones_between}
 use Rattle.vector_fill.proofs.ones_between.Goals as goal

@@ -1,13 +1,10 @@
 -- `ones_between` writes ones bits to a range of bytes. The loop's invariant is what is left: the bytes from p on, in the file as it stands.
 -- Assumes nothing.
 use Prim.Native.Nat.{◌-◌}
-use mathlib.Core.Path.{◌≡◌, refl, ◌∙◌}
-use native.Mathlib.Omega.{arith}
+use mathlib.Core.Path.{◌≡◌}
 use lib.ListN.{length}
-use borrow.Author.Rules.{rules}
 use Rattle.vector_element.specs.Steps.{steps}
-use Rattle.vector_element.proofs.Steps.{turn, none_left}
-use Rattle.vector_fill.specs.Fill.{ones_at, ones_between}
+use Rattle.vector_fill.specs.Fill.{ones_at}
 use Rattle.vector_fill.proofs.ones_between.Given as goal
 
 abbrev pub invariant-loop-p : goal.invariant-loop-p

@@ -1,12 +1,7 @@
 -- `ghash_vs` does the groups vstart/4 to vl/4 - 1 with one key, read before any write. The loop's invariant: the tables are the
 -- key's, and what is left. Assumes nothing.
-use Prim.Native.Nat.{ℕ, ◌-◌, ◌/◌}
-use mathlib.Core.Path.{◌≡◌, refl, subst, ◌∙◌}
-use native.Mathlib.Omega.{arith}
-use borrow.Author.Rules.{rules}
-use lib.ListN.{length}
-use Rattle.ghash_tables.specs.Table.{TableOf}
-use Rattle.vector_element.specs.Steps.{steps}
+use Prim.Native.Nat.{◌/◌}
+use mathlib.Core.Path.{◌∙◌}
 use Rattle.vector_ghash.specs.GhashWords.{group, ghash_vs, vs_step}
 use Rattle.vector_element.proofs.Steps.{turn, none_left}
 use Rattle.vector_ghash.proofs.ghash_vs.Goals as goal

@@ -1,14 +1,11 @@
 -- `ghash_vs` does the groups vstart/4 to vl/4 - 1 with one key, read before any write. The loop's invariant: the tables are the
 -- key's, and what is left. Assumes nothing.
-use Prim.Native.Nat.{ℕ, ◌-◌, ◌/◌}
-use mathlib.Core.Path.{◌≡◌, refl, subst, ◌∙◌}
-use native.Mathlib.Omega.{arith}
-use borrow.Author.Rules.{rules}
+use Prim.Native.Nat.{◌-◌}
+use mathlib.Core.Path.{◌≡◌}
 use lib.ListN.{length}
 use Rattle.ghash_tables.specs.Table.{TableOf}
 use Rattle.vector_element.specs.Steps.{steps}
-use Rattle.vector_ghash.specs.GhashWords.{group, ghash_vs, vs_step}
-use Rattle.vector_element.proofs.Steps.{turn, none_left}
+use Rattle.vector_ghash.specs.GhashWords.{group, vs_step}
 use Rattle.vector_ghash.proofs.ghash_vs.Given as goal
 
 abbrev pub invariant-loop-i : goal.invariant-loop-i

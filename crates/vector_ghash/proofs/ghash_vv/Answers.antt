@@ -1,11 +1,7 @@
 -- `ghash_vv` does the groups vstart/4 to vl/4 - 1, each with its own key. The loop's invariant is what is left.
 -- Assumes nothing.
-use Prim.Native.Nat.{◌-◌, ◌/◌}
-use mathlib.Core.Path.{◌≡◌, refl, ◌∙◌}
-use native.Mathlib.Omega.{arith}
-use borrow.Author.Rules.{rules}
-use lib.ListN.{length}
-use Rattle.vector_element.specs.Steps.{steps}
+use Prim.Native.Nat.{◌/◌}
+use mathlib.Core.Path.{◌∙◌}
 use Rattle.vector_ghash.specs.GhashWords.{ghash_vv, vv_step}
 use Rattle.vector_element.proofs.Steps.{turn, none_left}
 use Rattle.vector_ghash.proofs.ghash_vv.Goals as goal

@@ -4,7 +4,6 @@ use mathlib.Core.Path.{ap, ap₂, ◌∙◌}
 use Rattle.gf128.specs.Bytes.{put_block}
 use Rattle.gf128.specs.Field.{product}
 use Rattle.vector_ghash.specs.GhashWords.{vs_step}
-use borrow.Author.Rules.{rules}
 use Rattle.vector_ghash.proofs.vs_step.Goals as goal
 
 pub returns : goal.returns

@@ -4,7 +4,6 @@ use mathlib.Core.Path.{ap, ◌∙◌}
 use Rattle.ghash_block.specs.Block.{key_of}
 use Rattle.vector_ghash.specs.GhashWords.{vs_step}
 use Rattle.vector_ghash.proofs.Steps.{own_key}
-use borrow.Author.Rules.{rules}
 use Rattle.vector_ghash.proofs.vv_step.Goals as goal
 
 pub returns : goal.returns

@@ -1,9 +1,7 @@
 -- `list` lists what `decode` gives. Assumes nothing.
 use mathlib.Core.Path.{sym, subst}
-use borrow.Author.Rules.{rules}
-use Rattle.vector_word.specs.declared.Word.{Word}
 use Rattle.vector_listing.specs.Listing.{RegistersOf}
-use Rattle.vector_listing.proofs.Answers.{Answers, registers}
+use Rattle.vector_listing.proofs.Answers.{registers}
 use Rattle.vector_listing.proofs.list.Goals as goal
 
 pub list_decoded-requires : goal.list_decoded-requires

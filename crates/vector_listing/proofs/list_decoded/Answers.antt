@@ -1,10 +1,8 @@
 -- `list_decoded` goes by what the word is, and then by the buffer's length. Assumes nothing.
-use mathlib.Core.Path.{refl, sym, subst}
+use mathlib.Core.Path.{sym, subst}
 use native.Mathlib.Omega.{arith}
-use borrow.Author.Rules.{rules}
 use Rattle.vector_word.specs.declared.Word.{Word}
-use Rattle.vector_listing.specs.Listing.{RegistersOf}
-use Rattle.vector_listing.proofs.Answers.{Answers, short, fits}
+use Rattle.vector_listing.proofs.Answers.{Answers, fits}
 use Rattle.vector_listing.proofs.list_decoded.Goals as goal
 
 pub returns-else-text-lt32 : goal.returns-else-text-lt32

@@ -1,6 +1,5 @@
 -- `put_operand` puts what leads the number, and then the number. Assumes nothing.
 use native.Mathlib.Omega.{arith}
-use borrow.Author.Rules.{rules}
 use Rattle.vector_listing.proofs.Lengths.{decimal-length}
 use Rattle.vector_listing.proofs.Puts.{puts_then}
 use Rattle.vector_listing.proofs.put_operand.Goals as goal

@@ -1,7 +1,5 @@
 -- `put_text` puts the parts of the text one after the other. Assumes nothing.
 use mathlib.Core.Path.{ap}
-use native.Mathlib.Omega.{arith}
-use borrow.Author.Rules.{rules}
 use Rattle.vector_listing.specs.declared.Third.{Third}
 use Rattle.vector_listing.specs.Text.{third, text}
 use Rattle.vector_listing.proofs.Puts.{puts-as, puts_then}

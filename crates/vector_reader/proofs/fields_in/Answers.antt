@@ -1,11 +1,8 @@
 -- `fields_in` reads vd and vs2, and then what follows. Assumes nothing.
 use mathlib.Core.Path.{◌≡◌, ap, ◌∙◌}
-use Prim.Native.Nat.{◌+◌, ◌≤◌}
-use native.Mathlib.Omega.{arith}
-use borrow.Author.Rules.{rules}
+use Prim.Native.Nat.{◌+◌}
 use Rattle.vector_reader.specs.declared.Scanned.{Scanned}
 use Rattle.vector_reader.specs.Scan.{scanned, operands_at, fields_after, fields_in}
-use Rattle.vector_reader.proofs.Scan.{operands-at-most, scanned-end}
 use Rattle.vector_reader.proofs.fields_in.Goals as goal
 
 pub returns : goal.returns

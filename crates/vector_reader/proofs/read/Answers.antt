@@ -1,6 +1,6 @@
 -- `read` lists what the text was taken for, and compares. Assumes nothing.
 use mathlib.Core.Bool.{true≢false}
-use mathlib.Core.List.{List, ◌++◌}
+use mathlib.Core.List.{List}
 use mathlib.Core.Path.{◌≡◌, refl, sym, ap, subst, ◌∙◌}
 use Prim.Native.Nat.{ℕ}
 use lib.ListN.{length, take, drop, replicate}

@@ -1,7 +1,6 @@
 -- `refusal_of` gives 1 where it applies, else the number of the word.
 -- Assumes nothing.
 use mathlib.Core.Path.{sym, ◌∙◌}
-use borrow.Author.Rules.{rules}
 use Rattle.vector_word.proofs.Tests.{pick-here, pick_next}
 use Rattle.vector_refusal.proofs.refusal_of.Goals as goal
 

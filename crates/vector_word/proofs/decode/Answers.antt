@@ -1,6 +1,5 @@
 -- `decode` tries the rows of the definition's list: what the k-th call gives is what the last k of them make of the word.
 -- Assumes nothing.
-use borrow.Author.Rules.{rules}
 use Rattle.vector_word.specs.Word.{decode}
 use Rattle.vector_word.proofs.decode.Goals as goal
 

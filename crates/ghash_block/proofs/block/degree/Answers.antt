@@ -5,7 +5,7 @@ use mathlib.Core.Bool.{Bool, cond}
 use Prim.Native.Nat.{ℕ, ◌+◌, ◌*◌, ◌^◌, ◌<◌}
 use native.Mathlib.Nat.{add-zero, pos_of_ne-zero}
 use native.Mathlib.Omega.{arith}
-use lib.Count.{count_trailing_zeros, trailing_le}
+use lib.Count.{count_trailing_zeros}
 use borrow.Author.Tests.{ne_eqb}
 use Rattle.ghash_block.specs.Block.{value_of}
 use Rattle.gf128.specs.Degree.{degree_of, degree_refusal}

@@ -1,7 +1,6 @@
 -- `mask_bit` gives a mask bit. Assumes nothing.
 use Prim.Native.Nat.{ℕ, ◌/◌, ◌%◌, ◌^◌}
 use mathlib.Core.Path.{ap}
-use borrow.Author.Rules.{rules}
 use Rattle.vector_element.specs.Element.{mask_bit}
 use Rattle.vector_element.proofs.element.mask_bit.Goals as goal
 

@@ -1,17 +1,9 @@
 -- `clmul64` meets its definition. The loop's invariant: the two numbers hold the products of a's pieces with the first j pieces of b,
 -- moved up by the bits that are still to come.
 -- Assumes nothing.
-use Prim.Native.Nat.{ℕ, ◌+◌, ◌-◌, ◌*◌, ◌/◌, ◌^◌, ◌≤◌, ◌<◌}
-use mathlib.Core.Path.{◌≡◌, refl, sym, ap, ◌∙◌}
-use native.Mathlib.Nat.{mod-lt, lt_of_le_of_lt, mul-one, div-one}
-use native.Mathlib.Omega.{arith}
-use lib.Bits.{xor_lt}
-use lib.Pow.{pow_pos, shr_le, shr-shr}
-use borrow.Author.Rules.{rules}
-use Rattle.vector_product.specs.Clmul.{clmul64}
-use Rattle.vector_product.specs.Pieces.{sum, sum_of_products}
-use Rattle.vector_product.proofs.FromPieces.{whole-from-pieces}
-use Rattle.vector_product.proofs.Gathered.{turn}
+use Prim.Native.Nat.{◌+◌, ◌-◌, ◌*◌, ◌/◌, ◌^◌, ◌≤◌, ◌<◌}
+use mathlib.Core.Path.{◌≡◌}
+use Rattle.vector_product.specs.Pieces.{sum_of_products}
 use Rattle.vector_product.proofs.clmul.clmul64.Given as goal
 
 abbrev pub invariant-loop-j : goal.invariant-loop-j

@@ -1,7 +1,6 @@
 -- `low_bits` cuts a number to its low bits. Assumes nothing.
 use Prim.Native.Nat.{◌-◌}
 use native.Mathlib.Omega.{arith}
-use borrow.Author.Rules.{rules}
 use Rattle.vector_product.proofs.Carryless.{cut}
 use Rattle.vector_product.proofs.clmul.low_bits.Goals as goal
 

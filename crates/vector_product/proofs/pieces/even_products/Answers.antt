@@ -5,7 +5,6 @@ use Prim.Native.Nat.{ℕ, ◌*◌, ◌/◌, ◌%◌, ◌^◌}
 use native.Mathlib.Nat.{mod-lt}
 use lib.Bits.{bit_xor}
 use lib.Pow.{pow_pos}
-use borrow.Author.Rules.{rules}
 use Rattle.vector_product.proofs.Lanes.{looked-up}
 use Rattle.vector_product.proofs.pieces.even_products.Goals as goal
 

@@ -1,14 +1,9 @@
 -- `fill_window` fills the window of a number. The loop's invariant: the entries below 2·n are there.
 -- Assumes nothing.
-use mathlib.Core.Path.{◌≡◌, sym, ap, ap₂, ◌∙◌}
-use Prim.Native.Nat.{ℕ, ◌+◌, ◌-◌, ◌*◌, ◌%◌, ◌^◌, ◌≤◌, ◌<◌}
-use native.Mathlib.Omega.{arith}
-use lib.Bits.{bit_xor}
-use lib.ListN.{length, get_or, set, length-set}
-use borrow.Author.Count.{below_none}
-use borrow.Author.Rules.{rules}
+use mathlib.Core.Path.{◌≡◌}
+use Prim.Native.Nat.{ℕ, ◌-◌, ◌*◌, ◌≤◌, ◌<◌}
+use lib.ListN.{length, get_or}
 use Rattle.vector_product.specs.Pieces.{even_products}
-use Rattle.vector_product.proofs.Lanes.{window-zero, window-one, window-moved, window-next, two-more}
 use Rattle.vector_product.proofs.pieces.fill_window.Given as goal
 
 abbrev pub invariant-loop-n : goal.invariant-loop-n
