@@ -1,4 +1,5 @@
 -- `step_back_bytes` meets its contract: 9 for a wrong length, else what the step back promises of the three blocks. Assumes nothing.
+use native.Mathlib.Omega.{arith}
 use Rattle.ghash_inverse.proofs.Lengths.{lengths-right, lengths-refused}
 use Rattle.ghash_inverse.proofs.step_back.step_back_bytes.Goals as goal
 
@@ -6,32 +7,31 @@ pub returns-then-key-ne16 : goal.returns-then-key-ne16
 returns-then-key-ne16 c =
     let args = c.args in
     record {
-      refused = λ e. (c.refused.ensures.answer, c.refused.ensures.block);
-      done = λ e. absurd (c.if-key-ne16.true (lengths-right args.key.now args.block.now args.later.now e).0);
+      refused = λ e. (omega arith, omega arith);
+      done = λ e. let right = lengths-right args.key.now args.block.now args.later.now e in absurd (omega (arith, right.0));
     }
 
 pub returns-then-block-ne16 : goal.returns-then-block-ne16
 returns-then-block-ne16 c =
     let args = c.args in
     record {
-      refused = λ e. (c.refused-then-block-ne16.ensures.answer, c.refused-then-block-ne16.ensures.block);
-      done = λ e. absurd (c.if-block-ne16.true (lengths-right args.key.now args.block.now args.later.now e).1);
+      refused = λ e. (omega arith, omega arith);
+      done = λ e. let right = lengths-right args.key.now args.block.now args.later.now e in absurd (omega (arith, right.1));
     }
 
 pub returns-then-later-ne16 : goal.returns-then-later-ne16
 returns-then-later-ne16 c =
     let args = c.args in
     record {
-      refused = λ e. (c.refused-then-later-ne16.ensures.answer, c.refused-then-later-ne16.ensures.block);
-      done = λ e. absurd (c.if-later-ne16.true (lengths-right args.key.now args.block.now args.later.now e).2);
+      refused = λ e. (omega arith, omega arith);
+      done = λ e. let right = lengths-right args.key.now args.block.now args.later.now e in absurd (omega (arith, right.2));
     }
 
 pub returns : goal.returns
 returns c =
     let args = c.args in
     record {
-      refused = λ e. absurd (lengths-refused args.key.now args.block.now args.later.now c.if-key-ne16.false
-          c.if-block-ne16.false c.if-later-ne16.false e);
+      refused = λ e. absurd (lengths-refused args.key.now args.block.now args.later.now (omega arith) (omega arith) (omega arith) e);
       done = λ e. rw (c.answer_of.ensures.answer, c.answer_of.ensures.block, ← c.key_at_start.ensures, ← c.block_at.ensures, ← c.block_at-2.ensures)
           c.step_back.ensures;
     }
