@@ -27,8 +27,8 @@ demo: ## proves what the library needs, builds it and the example monitor, and r
 	gcc -std=c99 -O2 -Wall -Wextra -pedantic -Iinclude examples/monitor.c $(lib) -o target/host/monitor
 	target/host/monitor examples/traps.txt
 
-# The log is read again for its last line, which is rt's own count. The second build goes beside the first.
-test: ## the whole gate: proofs from nothing, edits that must be refused, then host/check
+# rt ci passes with a bad edit, so the log is read for one, and again for its last line, which is rt's own count.
+test: ## the whole gate: proofs, from nothing but for what this machine passed before, edits that must be refused, then host/check
 	@host/setup check test
 	@set -o pipefail; log=$$(mktemp); trap 'rm -f "$$log"' EXIT; \
 	rt ci | tee "$$log" && ! grep -E '^rt: ok.*, [0-9]+ bad' "$$log" && host/archive && host/check && tail -n 1 "$$log"
