@@ -35,7 +35,7 @@ test: ## the whole gate: proofs, from nothing but for what this machine passed b
 
 archive: $(lib) ## proves the library and writes target/staticlib/librvghash.a
 
-$(lib): crates.txt $(shell find crates -name out -prune -o \( -name '*.rt' -o -name '*.antt' \) -print)
+$(lib): crates.txt $(shell find crates/*/src crates/*/specs crates/*/proofs -name '*.rt' -o -name '*.antt' 2>/dev/null)
 	host/archive
 
 desk: $(command) ## builds the desk's command, target/desk/rvghash, which lists words, reads them back, replays traces and checks links
