@@ -72,11 +72,16 @@ def for_riscv(module, functions):
     for old, new in [
         (r'^target triple = "x86_64-.*"$', f'target triple = "{TRIPLE}"'),
         (r'^target datalayout = "e-.*"$', f'target datalayout = "{LAYOUT}"'),
-        (r' "target-cpu"="x86-64"', ""),
     ]:
         text, count = re.subn(old, new, text, flags=re.M)
         if count != 1:
             fail(f"{old} stands {count} times in the module, not once")
+    # each group of attributes names the processor, and nothing else that is x86's may stand in one
+    text, count = re.subn(r'^(attributes #\d+ = \{.*) "target-cpu"="x86-64"(.*\})$', r"\1\2", text, flags=re.M)
+    if count == 0:
+        fail("no processor stands in the module")
+    if re.search(r'"(target|tune)-\w+"', text):
+        fail("more than a processor of x86-64 stands in the module")
     return text
 
 

@@ -1,8 +1,9 @@
 #!/usr/bin/env python3
 """Holds the C declarations against the library: include/rvghash.h as the kit's own clang parses it, the exported signatures of
 crates/rvghash/src, and the oracle's host/oracle/src/ffi.rs. They must agree on every function's name and answer, on its
-parameters' names, order and types, and on the running hash's fields. The header's refusal numbers must be README's table,
-its kinds of word those of crates/vector_kind, and its lengths of records the constants of these names in the crates.
+parameters' names, order and types, and on the running hash's fields. The header's refusal numbers must be README's table and
+those of crates/refusal, its kinds of word those of crates/vector_kind, and its lengths of records the constants of these names
+in the crates.
 
     header.py [ARCHIVE]     compares; with librvghash.a, its global symbols too
     header.py --self-test   puts wrong declarations into a copy of the header: each must be refused
@@ -19,6 +20,7 @@ HEADER = "include/rvghash.h"
 STRUCT = "struct rvghash_running"
 NUMBERS, KINDS = "rvghash_number", "rvghash_kind"  # the enums
 KINDS_SOURCE = "crates/vector_kind/specs/Kinds.antt"
+REFUSALS_SOURCE = "crates/refusal/specs/Refusal.antt"
 
 # The kit's clang brings no headers, and the comparison goes by the types' spelled names: so these serve.
 STDINT = "".join(f"typedef __UINT{bits}_TYPE__ uint{bits}_t; typedef __INT{bits}_TYPE__ int{bits}_t;\n"
@@ -27,6 +29,7 @@ STDDEF = "typedef __SIZE_TYPE__ size_t;\n"
 STDBOOL = "typedef _Bool bool;\n"
 
 NUMBER_TYPES = {"bool": "bool", "u8": "uint8_t", "u32": "uint32_t", "u64": "uint64_t", "usize": "size_t", "()": "void"}
+C_REFUSALS = {"NoneExists": "NONE", "ManyExist": "MANY"}  # `None` is Option's
 C_FIELDS = {"open_block": "open"}  # the fields that have another name in C: `open` is a word of the language antt
 
 
@@ -176,6 +179,13 @@ def number_differences(header, numbers):
             yield f"{name}: the header's comment is not {{}}'s `{meaning}`"
 
 
+def refusals_of_library():
+    """The refusals' numbers in the library's definition, by their names in C: Not16Bytes is RVGHASH_NOT_16_BYTES."""
+    rows = re.findall(r"^number (\w+) = (\d+)$", read(REFUSALS_SOURCE), re.M)
+    names = [(C_REFUSALS.get(name) or re.sub(r"\B(?=[A-Z]|(?<!\d)\d)", "_", name).upper(), number) for name, number in rows]
+    return [("RVGHASH_DONE", "0"), *((f"RVGHASH_{name}", number) for name, number in names)]
+
+
 def kinds_of_library():
     """The kinds' numbers in the library's definition, by their names in C: VclmulVv is RVGHASH_VCLMUL_VV."""
     clauses = re.findall(r"^kind_number (\w+) = (\d+)$", read(KINDS_SOURCE), re.M)
@@ -199,6 +209,7 @@ def complaints(header):
     for where, path in (("crates/ghash_state", "crates/ghash_state/src/lib.rt"), ("the oracle", "host/oracle/src/ffi.rs")):
         found += [text.format(where) for text in differences(STRUCT, fields, struct_fields(path))]
     found += [text.format("README") for text in number_differences(header, enums[NUMBERS])]
+    found += [text.format("crates/refusal") for text in differences(f"enum {NUMBERS}", enums[NUMBERS], refusals_of_library())]
     found += [text.format("crates/vector_kind") for text in differences(f"enum {KINDS}", enums[KINDS], kinds_of_library())]
     lengths = [(name, value) for name, value in enums.get(None, []) if name.endswith("_BYTES")]
     theirs = lengths_of_library(["RVGHASH_RECORD_BYTES", "RVGHASH_LINK_BYTES", "RVGHASH_PARKED_BYTES"])

@@ -5,7 +5,8 @@
     statements.py --self-test   puts names that are nowhere into a copy of the page: each must be found out
 
 A name is one of these: `crate/specs/File: a, b` or `crate/proofs/File: a .. b` (definitions, theorems), `crate/specs/File`,
-`crate::module::f` (a function, struct or constant), `crate::module` or `crate::module::*`, `f` after such a name in the same cell
+`crate::module::f` (a function, struct or constant), `crate::module::Type::f` (a method or constant of a type; `Type::*` for all of
+them), `crate::module` or `crate::module::*`, `f` after such a name in the same cell
 or paragraph (of that crate, or of that file), `rvghash_f` or `RVGHASH_F` (a name of the header), a crate, a must-fail edit after
 its crate and a colon, one outside tables without its crate, a path of the tree, `make target`, or one of the literals below.
 """
@@ -37,8 +38,17 @@ def declares(file, name):
     return re.search(rf"^ *{MODIFIERS}{re.escape(name)}(?=\s)[^=\n]*(?:\n +[^=\n]*)*?\s:\s", read(file), re.M) is not None
 
 
+def of_type(path, type_name):
+    """What a file has in the `impl` blocks of a type: of its own, and of traits for it."""
+    return "".join(re.findall(rf"^impl\b[^\n]*\b{re.escape(type_name)}\b[^\n]*\{{\n(.*?)^\}}", read(path), re.M | re.S))
+
+
 def has_function(crate, modules, name):
-    """Whether a module has such a function, struct, field or constant; where no module is given, the crate anywhere."""
+    """Whether a module, or a type of it, has such a function, struct, field or constant; where no module is given, the crate anywhere."""
+    if modules and modules[-1][0].isupper():
+        *modules, type_name = modules
+        text = of_type(f"crates/{crate}/src/{'/'.join(modules or ['lib'])}.rt", type_name)
+        return re.search(rf"\b(?:fn|const) {re.escape(name)}\b" if name != "*" else r"\bfn ", text) is not None
     files = [f"crates/{crate}/src/{'/'.join(modules)}.rt"] if modules else glob.glob(f"crates/{crate}/src/**/*.rt", recursive=True)
     return any(re.search(rf"\b(?:(?:fn|struct|enum|const) {re.escape(name)}\b|pub {re.escape(name)}:)", read(file)) for file in files)
 
@@ -77,7 +87,10 @@ class Reader:
         if "::" in name:
             self.crate, *modules, last = name.removesuffix("::*").split("::")
             is_module = os.path.exists(f"crates/{self.crate}/src/{'/'.join([*modules, last])}.rt")
-            is_function = not name.endswith("*") and has_function(self.crate, modules or ["lib"], last)
+            if name.endswith("::*") and last[0].isupper():
+                modules, last = [*modules, last], "*"
+            is_function = last == "*" or not name.endswith("*")
+            is_function = is_function and has_function(self.crate, modules or ["lib"], last)
             return [] if is_module or is_function else [name]
         return [] if self.bare(name) else [name]
 
@@ -138,6 +151,9 @@ NOWHERE = [
     ("rvghash_no_such_function", "The file is what `rvghash_no_such_function` leaves."),
     ("host/no_such_file", "It is tried by `host/no_such_file`."),
     ("gf128/specs/Feild", "| a promise | `gf128/specs/Feild` | the check itself |"),
+    ("vector_kind::Kind::no_such_method", "| a promise | `vector_kind::Kind::no_such_method` | the check itself |"),
+    ("vector_kind::Kine::is_vv", "| a promise | `vector_kind::Kine::is_vv` | the check itself |"),
+    ("vector_kind::Kine::*", "| a promise | `vector_kind::Kine::*` | the check itself |"),
     ("vector_word::no_such_module", "| a promise | `vector_word::no_such_module` | the check itself |"),
 ]
 

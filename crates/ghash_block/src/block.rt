@@ -2,24 +2,18 @@
 ghost use Rattle.std.specs.Prelude.{◌≡◌, ◌^◌};
 ghost use Rattle.std.specs.Int.Bits.{bit_xor};
 ghost use Rattle.ghash_block.specs.Block.{value_of, key_of};
+ghost use Rattle.ghash_block.specs.Degree.{place_number, place_or_zero};
 ghost use Rattle.gf128.specs.Degree.{degree_of, degree_refusal};
 
 // A data block: the number of its 16 bytes, read big-endian, as its high and its low half.
 #[repr(C)]
-#[derive(Clone, Copy)]
+#[derive(Clone, Copy, PartialEq, Eq)]
 pub struct Block(pub u64, pub u64);
 
 // A hash key, read from bytes as a block is. It is a type of its own, so that a key is never passed for a block.
 #[repr(C)]
-#[derive(Clone, Copy)]
+#[derive(Clone, Copy, PartialEq, Eq)]
 pub struct Key(pub u64, pub u64);
-
-// Document 01's number, and the place, which is 0 where the number is not.
-#[derive(Clone, Copy)]
-pub struct DegreeAnswer {
-    pub number: u32,
-    pub place: u32,
-}
 
 impl Block {
     // The zero block.
@@ -32,13 +26,6 @@ impl Block {
         ensures { (result.0 ≡ high) × (result.1 ≡ low) }
     {
         Block(high, low)
-    }
-
-    // A key's block.
-    pub fn of_key(h: Key) -> Block
-        ensures { value_of result ≡ key_of h }
-    {
-        Block(h.0, h.1)
     }
 
     pub fn zero() -> Block
@@ -66,33 +53,35 @@ impl Key {
     {
         Key(high, low)
     }
+}
 
-    // The key that a block is, as where it was read from bytes.
-    pub fn of_block(b: Block) -> Key
-        ensures { key_of result ≡ value_of b }
-    {
+// A key's block.
+impl From<Key> for Block {
+    ghost from_gives = { λ h b. value_of b ≡ key_of h };
+
+    fn from(h: Key) -> Block {
+        Block(h.0, h.1)
+    }
+}
+
+// The key that a block is, as where it was read from bytes.
+impl From<Block> for Key {
+    ghost from_gives = { λ b h. key_of h ≡ value_of b };
+
+    fn from(b: Block) -> Key {
         Key(b.0, b.1)
     }
 }
 
-// The place of the highest nonzero coefficient.
-pub fn degree(b: Block) -> DegreeAnswer
-    ensures { (result.number ≡ degree_refusal (value_of b)) × (result.place ≡ degree_of (value_of b)) }
+// The place of the highest nonzero coefficient; the zero block has none.
+pub fn degree(b: Block) -> Option<u32>
+    ensures { (place_number result ≡ degree_refusal (value_of b)) × (place_or_zero result ≡ degree_of (value_of b)) }
 {
     if b.1 != 0 {
-        return DegreeAnswer {
-            number: 0,
-            place: 127 - u64::trailing_zeros(b.1),
-        };
+        return Some(127 - u64::trailing_zeros(b.1));
     }
     if b.0 != 0 {
-        return DegreeAnswer {
-            number: 0,
-            place: 63 - u64::trailing_zeros(b.0),
-        };
+        return Some(63 - u64::trailing_zeros(b.0));
     }
-    DegreeAnswer {
-        number: 12,
-        place: 0,
-    }
+    None
 }

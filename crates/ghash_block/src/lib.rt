@@ -1,4 +1,4 @@
-// The elements of the GHASH field: blocks and keys; and an answer with its number and block.
+// The elements of the GHASH field: blocks and keys; and the block that an answer gives.
 #![tactic(auto)]
 
 pub mod answer;

@@ -18,21 +18,19 @@ pub fn block_at(s: &[u8], at: usize) -> Block
     Block(read_be8(s, at), read_be8(s, at + 8))
 }
 
-// The key in the 16 bytes from place 0 on, read as a block is.
+// The key in the 16 bytes from place 0 on, read as a block is. No `TryFrom<&[u8]>` that tests the length: its impl would stand with the
+// type, in the crate below this one.
 pub fn key_at_start(s: &[u8]) -> Key
     ensures { key_of result ≡ block_at s.now 0 }
 {
-    Key::of_block(block_at(s, 0))
+    Key::from(block_at(s, 0))
 }
 
 // Writes the 16 bytes of a block from `at` on. Where they do not fit, nothing is written.
 pub fn put_block(s: &mut [u8], at: usize, b: Block)
     ensures { s.new ≡ put_block s.old at (value_of b) }
 {
-    if s.len() < 16 {
-        return;
-    }
-    if s.len() - 16 < at {
+    if s.len() < 16 || s.len() - 16 < at {
         return;
     }
     write_be8(s, at, b.0);

@@ -6,15 +6,12 @@
 #![tactic(auto)]
 
 ghost use Rattle.std.specs.Prelude.{◌≡◌, ℕ, ◌*◌, ◌<◌};
-ghost use Rattle.ghash_block.specs.Answer.{ProductAnswer};
 ghost use Rattle.ghash_block.specs.Block.{value_of};
 ghost use Rattle.ghash_tables.specs.Table.{TableOf, ReductionsIn, nibble, entries_of};
 ghost use Rattle.gf128.specs.Field.{product, shifted};
 
-use ghash_block::answer::Answer;
 use ghash_block::block::Block;
-use ghash_bytes::{block_at, key_at_start};
-use ghash_tables::{TABLES, fill_tables};
+use ghash_tables::TABLES;
 
 // z times x^4.
 fn times_x4(t: &[u64; TABLES], z: Block) -> Block
@@ -48,7 +45,7 @@ fn entries(t: &[u64; TABLES], a: u64, b: u64, c: u64, d: u64) -> Block
 }
 
 // U·H on the fast path, with the tables of H. The entries of a step are read one step ahead, so that the chain does
-// not wait for them.
+// not wait for them. It takes any numbers, and not a `ghash_tables::Tables`: docs/DECISIONS.md names it as safe and ending with any.
 pub fn product_fast(t: &[u64; TABLES], u: Block) -> Block
     ensures { (h : ℕ) → TableOf h t.now → value_of result ≡ product (value_of u) h }
 {
@@ -60,30 +57,13 @@ pub fn product_fast(t: &[u64; TABLES], u: Block) -> Block
     let mut d = low % 0x1_0000_0000;
     let mut z = Block::ZERO;
     let mut e = entries(t, a % 16, b % 16, c % 16, d % 16);
-    let mut i: u64 = 0;
-    while i < 7 {
-        a = a / 16;
-        b = b / 16;
-        c = c / 16;
-        d = d / 16;
+    for _ in 0..7u32 {
+        a /= 16;
+        b /= 16;
+        c /= 16;
+        d /= 16;
         z = times_x4(t, z).xor(e);
         e = entries(t, a % 16, b % 16, c % 16, d % 16);
-        i += 1;
     }
     times_x4(t, z).xor(e)
-}
-
-// The fast product of a key and a block given as bytes.
-pub fn product_fast_bytes(key: &[u8], block: &[u8]) -> Answer
-    ensures { ProductAnswer key.now block.now result }
-{
-    if key.len() != 16 {
-        return Answer::refused(9);
-    }
-    if block.len() != 16 {
-        return Answer::refused(9);
-    }
-    let mut t = [0u64; TABLES];
-    fill_tables(&mut t, key_at_start(key));
-    Answer::done(product_fast(&t, block_at(block, 0)))
 }

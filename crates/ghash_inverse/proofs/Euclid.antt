@@ -1,12 +1,8 @@
 -- The rows of a division: the first two are rows (`started`), a turn keeps the rows and makes the degrees' sum less, where the second row is
 -- cut from the first (`turned`) and where the first is cut from the second (`turned-other`), and at degree 0 the first factor is the
 -- inverse (`ended`). Assumes nothing.
-use mathlib.Core.Path.{◌≡◌, sym, ap, ◌∙◌, subst}
-use mathlib.Core.Logic.{◌≢◌}
-use Prim.Native.Nat.{ℕ, suc, ◌+◌, ◌-◌, ◌/◌, ◌%◌, ◌^◌, ◌<◌, ◌≤◌, suc-le-suc}
-use native.Mathlib.Nat.{lt_of_le_of_lt}
-use native.Mathlib.Omega.{arith}
-use lib.Bits.{bit_xor, xor_lt}
+use Rattle.std.proofs.Common.{◌≡◌, sym, ap, ◌∙◌, subst, ◌≢◌, ℕ, suc, ◌+◌, ◌-◌, ◌/◌, ◌%◌, ◌^◌, ◌<◌, ◌≤◌, suc-le-suc, lt_of_le_of_lt, pos_of_ne-zero, zero-lt-suc, arith, bit_xor}
+use lib.Bits.{xor_lt}
 use lib.Pow.{shr_le}
 use Rattle.gf128.specs.Degree.{degree_of}
 use Rattle.gf128.specs.Field.{times_x, product, one}
@@ -24,6 +20,9 @@ degree-lt {v = v} r = subst (λ (x : ℕ). x < 128) (sym r.degree) (suc-le-suc (
 not-zero : (h v f z : ℕ) → h ≢ 0 → h < 2 ^ 128 → f < 2 ^ 128 → Ends f z → product h f ≡ v → v ≢ 0
 not-zero h v f z n l lf e p q = ends-positive f z e (no-zero-divisors h f l lf (p ∙ q) n)
 
+before : (d : ℕ) → 0 < d → d ≡ suc (d - 1)
+before d p = omega arith
+
 -- the row (b, t) of degree e = w + 1, cut from the row (a, s) of degree d = e + k
 module _ {h a s d b t e a' s' d' : ℕ} (key : h ≢ 0) (block : h < 2 ^ 128) (first : IsRow h a s d) (second : IsRow h b t e) (k w : ℕ)
     (above : e ≡ suc w) (larger : e + k ≡ d) (zeros : t % 2 ^ (w + k) ≡ 0) (ends : Ends (bit_xor s (t / 2 ^ k)) w)
@@ -35,14 +34,16 @@ module _ {h a s d b t e a' s' d' : ℕ} (key : h ≢ 0) (block : h < 2 ^ 128) (f
       block = block;
       first = record { product = row; block = s'-lt; positive = a'-positive; degree = degree };
       second = second;
-      zeros = w;
-      above = above;
-      first_ends = s'-ends;
+      above = rw above (zero-lt-suc w);
+      first_ends = subst (Ends s') (same e w above) s'-ends;
       second_ends = zeros-less t (w + k) d' (fits d' d e k w larger above less) zeros;
     },
     less,
   )
     where
+      same : (e w : ℕ) → e ≡ suc w → w ≡ e - 1
+      same e w p = omega arith
+
       at_right : (w k : ℕ) → k ≤ w + k
       at_right w k = omega arith
 
@@ -80,7 +81,7 @@ module _ {h a s d b t e a' s' d' : ℕ} (key : h ≢ 0) (block : h < 2 ^ 128) (f
 module _ {h a s d b t e a' s' d' : ℕ} (rows : Divides h a s d b t e) (degree : d' ≡ degree_of a') where
   pub turned : e ≤ d → a' ≡ bit_xor a (b / 2 ^ (d - e)) → s' ≡ bit_xor s (t / 2 ^ (d - e)) → Divides h a' s' d' b t e × (d' + e < d + e)
   turned l value factor =
-      let (r, less) = cut rows.key rows.block rows.first rows.second (d - e) w rows.above larger zeros ends value factor degree in
+      let (r, less) = cut rows.key rows.block rows.first rows.second (d - e) w (before e rows.above) larger zeros ends value factor degree in
       (r, more d' d e less)
     where
       sums : (d e : ℕ) → e ≤ d → e + (d - e) ≡ d
@@ -93,30 +94,27 @@ module _ {h a s d b t e a' s' d' : ℕ} (rows : Divides h a s d b t e) (degree :
       more c d e l = omega arith
 
       w : ℕ
-      w = rows.zeros
+      w = e - 1
 
       larger : e + (d - e) ≡ d
       larger = sums d e l
 
       zeros : t % 2 ^ (w + (d - e)) ≡ 0
-      zeros = zeros-less t d (w + (d - e)) (below d e (d - e) w rows.above larger) rows.second_ends
+      zeros = zeros-less t d (w + (d - e)) (below d e (d - e) w (before e rows.above) larger) rows.second_ends
 
       ends : Ends (bit_xor s (t / 2 ^ (d - e))) w
       ends =
           ends-xor s (t / 2 ^ (d - e)) w rows.first_ends
           (zeros-shift t (suc w) (d - e)
-          (subst (λ (x : ℕ). t % 2 ^ x ≡ 0) (sym (ap (λ (x : ℕ). x + (d - e)) (sym rows.above) ∙ larger)) rows.second_ends))
+          (subst (λ (x : ℕ). t % 2 ^ x ≡ 0) (sym (ap (λ (x : ℕ). x + (d - e)) (sym (before e rows.above)) ∙ larger)) rows.second_ends))
 
   -- the first row becomes the second
   pub turned-other : d < e → 0 < d → a' ≡ bit_xor b (a / 2 ^ (e - d)) → s' ≡ bit_xor t (s / 2 ^ (e - d))
       → Divides h a' s' d' a s d × (d' + d < d + e)
   turned-other l p value factor =
-      let (r, less) = cut rows.key rows.block rows.second rows.first (e - d) (d - 1) (above d p) (sums d e l) zeros ends value factor degree in
+      let (r, less) = cut rows.key rows.block rows.second rows.first (e - d) (d - 1) (before d p) (sums d e l) zeros ends value factor degree in
       (r, more d' d e less)
     where
-      above : (d : ℕ) → 0 < d → d ≡ suc (d - 1)
-      above d p = omega arith
-
       sums : (d e : ℕ) → d < e → d + (e - d) ≡ e
       sums d e l = omega arith
 
@@ -126,36 +124,37 @@ module _ {h a s d b t e a' s' d' : ℕ} (rows : Divides h a s d b t e) (degree :
       more : (c d e : ℕ) → c < e → c + d < d + e
       more c d e l = omega arith
 
-      at : rows.zeros ≡ d - 1 + (e - d)
-      at = same d e rows.zeros p l rows.above
+      at : e - 1 ≡ d - 1 + (e - d)
+      at = same d e (e - 1) p l (before e rows.above)
 
       zeros : s % 2 ^ (d - 1 + (e - d)) ≡ 0
-      zeros = subst (λ (x : ℕ). s % 2 ^ x ≡ 0) at (ends-zeros s rows.zeros rows.first_ends)
+      zeros = subst (λ (x : ℕ). s % 2 ^ x ≡ 0) at (ends-zeros s (e - 1) rows.first_ends)
 
       ends : Ends (bit_xor t (s / 2 ^ (e - d))) (d - 1)
       ends =
-          xor-ends t (s / 2 ^ (e - d)) (d - 1) (subst (λ (x : ℕ). t % 2 ^ x ≡ 0) (above d p) rows.second_ends)
+          xor-ends t (s / 2 ^ (e - d)) (d - 1) (subst (λ (x : ℕ). t % 2 ^ x ≡ 0) (before d p) rows.second_ends)
           (ends-shift s (d - 1) (e - d) (subst (λ (x : ℕ). Ends s x) at rows.first_ends))
 
 -- ---- the first two rows
 
-pub started : {h d a s c : ℕ} → h < 2 ^ 128 → h ≢ 0 → 0 < d → d ≡ degree_of h → a ≡ times_x (h / 2 ^ (127 - d)) → s ≡ one / 2 ^ (128 - d)
-    → c ≡ degree_of a → Divides h a s c h one d
-started {h} {d} {a} {s} {c} l n p e value factor degree =
+pub started : {h d a s c b t : ℕ} → h < 2 ^ 128 → h ≢ 0 → 0 < d → d ≡ degree_of h → a ≡ times_x (h / 2 ^ (127 - d)) → s ≡ one / 2 ^ (128 - d)
+    → c ≡ degree_of a → b ≡ h → t ≡ one → Divides h a s c b t d
+started {h} {d} {a} {s} {c} {b} {t} l n p e value factor degree same-b same-t =
     record {
       key = n;
       block = l;
       first = record { product = row; block = s-lt; positive = not-zero h a s (d - 1) n l s-lt s-ends row; degree = degree };
-      second = record { product = product-one-right h l; block = one-lt; positive = n; degree = e };
-      zeros = d - 1;
-      above = above d p;
+      second = record {
+        product = ap (product h) same-t ∙ product-one-right h l ∙ sym same-b;
+        block = rw same-t one-lt;
+        positive = rw same-b n;
+        degree = e ∙ ap degree_of (sym same-b);
+      };
+      above = p;
       first_ends = s-ends;
-      second_ends = one-zeros c (rw degree (degree-le a));
+      second_ends = rw (same-t, degree) (one-zeros (degree_of a) (degree-le a));
     }
   where
-    above : (d : ℕ) → 0 < d → d ≡ suc (d - 1)
-    above d p = omega arith
-
     next : (d : ℕ) → d ≤ 127 → 128 - d ≡ suc (127 - d)
     next d l = omega arith
 
@@ -186,6 +185,10 @@ started {h} {d} {a} {s} {c} l n p e value factor degree =
         ∙ row_first h (127 - d) l (below d p d-le)
         (ends-zeros h (127 - d) (degree-ends h (127 - d) l n (ap (λ (x : ℕ). x + (127 - d)) (sym e) ∙ room d d-le)))
         ∙ sym value
+
+-- the degree of a key that is neither the zero nor the one block
+pub degree-positive : (h : ℕ) → h < 2 ^ 128 → h ≢ 0 → h ≢ one → 0 < degree_of h
+degree-positive h l n m = pos_of_ne-zero (λ z. m (degree-one h l n z))
 
 -- ---- the end
 

@@ -1,12 +1,8 @@
 -- A number as two halves of w digits each, divided by 2 ^ k. Main results: `shift-less` (k below w), `shift-more` (k from w on).
 -- Assumes nothing.
-use mathlib.Core.Path.{◌≡◌, sym, ap, ap₂, ◌∙◌}
-use Prim.Native.Nat.{ℕ, suc, ◌+◌, ◌-◌, ◌*◌, ◌/◌, ◌%◌, ◌^◌, ◌<◌, ◌≤◌}
-use native.Mathlib.Nat.{zero-add, add_comm, mul_assoc, zero-mul, pow-suc}
-use native.Mathlib.Numerals.{one-add, add-one}
-use native.Mathlib.Omega.{arith}
-use lib.Bits.{bit_or, or_shifted_r}
-use lib.Pow.{shr-shr, shr_lt, high, mod-mod-pow}
+use Rattle.std.proofs.Common.{◌≡◌, sym, ap, ap₂, ◌∙◌, ℕ, suc, ◌+◌, ◌-◌, ◌*◌, ◌/◌, ◌%◌, ◌^◌, ◌<◌, ◌≤◌, zero-add, add_comm, mul_assoc, zero-mul, pow-suc, one-add, add-one, arith, bit_or, shr-shr, shr_lt}
+use lib.Bits.{or_shifted_r}
+use lib.Pow.{high, mod-mod-pow}
 use Rattle.gf128.proofs.Halves.{shl-mod, halves-moved}
 
 -- first i digits up and then one more, within u + 1 digits

@@ -1,17 +1,15 @@
 -- The inverse of a key, and the rows of the division that finds it.
 -- Assumes nothing.
-use Rattle.std.specs.Prelude.{◌≢◌, ◌≡◌, ℕ, suc, ◌%◌, ◌^◌, ◌<◌}
+use Rattle.std.specs.Prelude.{◌≢◌, ◌≡◌, ℕ, suc, ◌-◌, ◌%◌, ◌^◌, ◌<◌, Option, Some, None}
+use Rattle.ghash_block.specs.declared.block.Block.{Block}
 use Rattle.ghash_block.specs.Block.{value_of}
 use Rattle.gf128.specs.Degree.{degree_of}
 use Rattle.gf128.specs.Field.{product, one}
-use Rattle.ghash_inverse.specs.declared.inverse.Inverse.{Inverse}
-use Rattle.ghash_inverse.specs.declared.inverse.Inverse.TheVariants.{Of, ZeroKey}
-use Rattle.ghash_inverse.specs.declared.inverse.Rows.{Rows}
 
--- what the answer for the key h promises
-abbrev pub Inverts : ℕ → Inverse → Type 0
-Inverts h (Of b) = (product (value_of b) h ≡ one) × (h ≢ 0)
-Inverts h ZeroKey = h ≡ 0
+-- what the answer for the key h promises: the inverse, or none for the zero key
+abbrev pub Inverts : ℕ → Option Block → Type 0
+Inverts h (Some b) = (product (value_of b) h ≡ one) × (h ≢ 0)
+Inverts h None = h ≡ 0
 
 -- a row: the key times the factor is the value, which is not zero and of degree d
 pub record IsRow (h value factor d : ℕ) : Type 0 where
@@ -27,12 +25,6 @@ pub record Divides (h a s d b t e : ℕ) : Type 0 where
   pub block : h < 2 ^ 128
   pub first : IsRow h a s d
   pub second : IsRow h b t e
-  pub zeros : ℕ
-  pub above : e ≡ suc zeros
-  pub first_ends : s % 2 ^ suc zeros ≡ 2 ^ zeros
+  pub above : 0 < e
+  pub first_ends : s % 2 ^ suc (e - 1) ≡ 2 ^ (e - 1)
   pub second_ends : t % 2 ^ d ≡ 0
-
-abbrev pub RowsOf : ℕ → Rows → Type 0
-RowsOf h r =
-    Divides h (value_of r.first.value) (value_of r.first.factor) r.first.degree (value_of r.second.value)
-    (value_of r.second.factor) r.second.degree

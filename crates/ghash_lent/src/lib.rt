@@ -1,5 +1,5 @@
-// Answers written to a lent `out`, and what the calls on a running hash that is lent rest on.
+// Answers written to a lent `out`, and the calls on a running hash that is lent.
 #![tactic(auto)]
 
-pub mod finish;
 pub mod out;
+pub mod running;

@@ -1,14 +1,9 @@
 -- A record's bytes, field by field: written over zeros (`written`), how many they are (`length-record_bytes`), and read again (`written-is-read`,
 -- `spare-zeros`).
 -- Assumes nothing.
-use Prim.Native.Nat.{ℕ, zero, suc, ◌+◌, ◌^◌, ◌<◌}
-use mathlib.Core.Bool.{true}
-use mathlib.Core.List.{List, ◌++◌, append_assoc}
-use mathlib.Core.Path.{◌≡◌, refl, sym, ap, subst, ◌∙◌}
-use native.Mathlib.Nat.{mod-eq_of_lt}
-use native.Mathlib.Omega.{arith}
-use lib.ListN.{length, take, drop, replicate, length-append, length-replicate, replicate-append-replicate, get_or-append}
-use lib.Seq.{sets, sets-eq, take_at, drop_at, drop-append-add}
+use Rattle.std.proofs.Common.{ℕ, zero, suc, ◌+◌, ◌^◌, ◌<◌, true, List, ◌++◌, append_assoc, ◌≡◌, refl, sym, ap, subst, ◌∙◌, mod-eq_of_lt, arith, length, take, drop, replicate, length-append, take_at, drop_at}
+use lib.ListN.{length-replicate, replicate-append-replicate, get_or-append}
+use lib.Seq.{sets, sets-eq, drop-append-add}
 use Rattle.octets.specs.LittleEndian.{read_le, le_bytes}
 use Rattle.octets.proofs.BigEndian.{be_at-same, be_at-be_bytes, bytes_bits, length-be_bytes}
 use Rattle.octets.proofs.LittleEndian.{read-after, read-le_bytes, length-le_bytes}

@@ -1,3 +1,2 @@
+pub mod Counts
 pub mod Fields
-pub mod Layouts
-pub mod Readings

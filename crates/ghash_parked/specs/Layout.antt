@@ -1,10 +1,8 @@
 -- Where the fields of a parked record stand, and which layout a record's length tells. Document 02, Ask 6: "Y (16), open block (16),
 -- A count (4), C count (4), phase (1), seven zero bytes".
 -- Assumes nothing.
-use Rattle.std.specs.Prelude.{ℕ, ◌+◌, cond, eqb}
+use Rattle.std.specs.Prelude.{ℕ, ◌+◌, cond, eqb, Option, Some, None}
 use Rattle.ghash_parked.specs.declared.layout.Layout.{Layout}
-use Rattle.ghash_parked.specs.declared.layout.Found.{Found}
-use Rattle.ghash_parked.specs.declared.layout.Found.TheVariants.{One, Nothing}
 
 -- counts of 4 bytes, seven spare bytes
 abbrev pub counts4 : Layout
@@ -35,5 +33,5 @@ abbrev pub size : Layout → ℕ
 size l = at_spare l + l.spare_bytes
 
 -- which layout has this length
-abbrev pub layout_of : ℕ → Found
-layout_of n = cond (eqb n (size counts4)) (One counts4) Nothing
+abbrev pub layout_of : ℕ → Option Layout
+layout_of n = cond (eqb n (size counts4)) (Some counts4) None

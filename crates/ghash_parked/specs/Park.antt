@@ -1,12 +1,10 @@
 -- What parking and reading back answer and leave: document 02, Ask 6.
 -- Assumes nothing.
-use Rattle.std.specs.Prelude.{ℕ, cond, List, ◌≡◌, eqb, length}
+use Rattle.std.specs.Prelude.{ℕ, cond, List, ◌≡◌, eqb, length, Option, Some, None}
 use Rattle.gf128.specs.Running.{State, fresh, malformed}
 use Rattle.ghash_state.specs.State.{view, spare_zeros}
 use Rattle.ghash_state.specs.declared.Running.{Running}
 use Rattle.ghash_parked.specs.declared.layout.Layout.{Layout}
-use Rattle.ghash_parked.specs.declared.layout.Found.{Found}
-use Rattle.ghash_parked.specs.declared.layout.Found.TheVariants.{One, Nothing}
 use Rattle.ghash_parked.specs.Layout.{counts4, size, layout_of}
 use Rattle.ghash_parked.specs.Record.{record_bytes, state_at, accepted}
 
@@ -34,9 +32,9 @@ refused = record { number = 15; state = fresh }
 abbrev pub read_as : Layout → List ℕ → Reading
 read_as l bytes = cond (accepted l bytes) (record { number = 0; state = state_at l bytes }) refused
 
-abbrev pub read_by : Found → List ℕ → Reading
-read_by (One l) bytes = read_as l bytes
-read_by Nothing bytes = refused
+abbrev pub read_by : Option Layout → List ℕ → Reading
+read_by (Some l) bytes = read_as l bytes
+read_by None bytes = refused
 
 -- what reading a record gives: its length tells the layout, and with none it is refused
 abbrev pub unparked : List ℕ → Reading

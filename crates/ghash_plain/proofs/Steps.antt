@@ -1,11 +1,7 @@
 -- One turn of the bit-by-bit product: Z and V after k + 1 places from those after k.
 -- Assumes nothing.
-use mathlib.Core.Path.{◌≡◌, ap, ◌∙◌}
-use Prim.Native.Nat.{ℕ, ◌+◌, ◌*◌, ◌/◌, ◌%◌, ◌-◌, ◌^◌, ◌<◌}
-use native.Mathlib.Nat.{mod-lt, zero-lt-suc, one-mul, zero-mul}
-use native.Mathlib.Numerals.{add-one}
-use native.Mathlib.Omega.{arith}
-use lib.Bits.{bit_xor, xor_zero_r}
+use Rattle.std.proofs.Common.{◌≡◌, ℕ, ◌+◌, ◌*◌, ◌/◌, ◌%◌, ◌-◌, ◌^◌, ◌<◌, ap, ◌∙◌, add-one, arith, mod-lt, zero-lt-suc, one-mul, zero-mul, bit_xor}
+use lib.Bits.{xor_zero_r}
 use Rattle.gf128.specs.Field.{coeff_of, times_x_of, shifted_of, sum_of}
 
 module _ (m R u h k : ℕ) where

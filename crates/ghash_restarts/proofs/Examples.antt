@@ -1,11 +1,6 @@
 -- The examples hold (`examples`): one test of an example, computed over the table, and one law that turns the test into what the example
 -- says. Assumes nothing.
-use mathlib.Core.Bool.{Bool, ◌&&◌}
-use mathlib.Core.List.{List, [], ◌∷◌}
-use mathlib.Core.Path.{refl}
-use Prim.Native.Nat.{ℕ}
-use lib.Dec.{T, eqb, eqb→eq}
-use lib.ListN.{replicate}
+use Rattle.std.proofs.Common.{Bool, ◌&&◌, List, [], ◌∷◌, refl, ℕ, T, eqb, eqb→eq, replicate}
 use Rattle.octets.specs.BigEndian.{be_at, be_bytes}
 use Rattle.octets.specs.LittleEndian.{read_le, le_bytes}
 use Rattle.gf128.specs.Running.{State, push, pushed, closed, started_c, fed_a, fed_c, finished}

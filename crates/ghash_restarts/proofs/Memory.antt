@@ -1,7 +1,7 @@
 -- Whatever the bytes of the struct of a running hash are in memory, it is `Held`: what the theorems on parking ask of a state. `Is` is the
 -- kit's relation between a value of a type and the machine values that stand for it.
 -- Assumes nothing.
-use mathlib.Core.List.{List}
+use Rattle.std.proofs.Common.{List}
 use mir.Val.{Val}
 use denote.Laws.{Is}
 use denote.Struct.Laws as LL

@@ -1,14 +1,8 @@
 -- Restarts do not change a run (`same-run`): at each of its points the running hash is one that is parked and read back as it was.
 -- Assumes nothing.
-use Prim.Native.Nat.{ℕ, ◌+◌, ◌%◌, ◌^◌, ◌<◌}
-use mathlib.Core.Bool.{true, false, cond}
-use mathlib.Core.List.{List, [], ◌∷◌, ◌++◌, map}
-use mathlib.Core.Path.{◌≡◌, refl, ap, subst, ◌∙◌}
+use Rattle.std.proofs.Common.{ℕ, ◌+◌, ◌%◌, ◌^◌, ◌<◌, true, false, cond, List, [], ◌∷◌, ◌++◌, map, ◌≡◌, refl, ap, subst, ◌∙◌, zero-lt-suc, eq-eqb, ne_eqb, eqb, length, length-set}
 use native.Mathlib.Decide.{ℕ_discrete}
-use native.Mathlib.Nat.{one-le-pow, zero-lt-suc}
-use borrow.Author.Tests.{eq-eqb, ne_eqb}
-use lib.Dec.{eqb}
-use lib.ListN.{length, length-set}
+use native.Mathlib.Nat.{one-le-pow}
 use Rattle.octets.specs.Bytes.{AreBytes}
 use Rattle.octets.proofs.BigEndian.{be_at-lt, bytes_bits}
 use Rattle.octets.proofs.Tests.{both}

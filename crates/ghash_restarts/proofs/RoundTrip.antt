@@ -1,15 +1,8 @@
 -- Parking and reading undo each other: a record that is read is written again (`read-is-written`); so of the calls `parked-is-read`,
 -- `read-is-parked`.
 -- Assumes nothing.
-use Prim.Native.Nat.{ℕ, ◌+◌}
-use mathlib.Core.Bool.{Bool, true, false, cond, not}
-use mathlib.Core.List.{List}
-use mathlib.Core.Path.{◌≡◌, refl, sym, ap, ◌∙◌}
-use native.Mathlib.Omega.{arith}
-use borrow.Author.Tests.{eq-eqb, eqb-true, not-true}
-use lib.Dec.{eqb}
-use lib.ListN.{length, take, drop, replicate, length-drop}
-use lib.Seq.{take_all}
+use Rattle.std.proofs.Common.{ℕ, ◌+◌, Bool, true, false, cond, not, Some, None, List, ◌≡◌, refl, sym, ap, ◌∙◌, arith, eq-eqb, eqb-true, eqb, length, take, drop, replicate, length-drop, take_all}
+use borrow.Author.Tests.{not-true}
 use Rattle.octets.specs.Bytes.{AreBytes}
 use Rattle.octets.specs.LittleEndian.{read_le, le_bytes}
 use Rattle.octets.proofs.BigEndian.{be_bytes-read}
@@ -21,7 +14,6 @@ use Rattle.gf128.specs.Running.{State, all_zero, malformed}
 use Rattle.gf128.proofs.Parts.{zeros-all}
 use Rattle.gf128.proofs.Running.{sound}
 use Rattle.ghash_parked.specs.declared.layout.Layout.{Layout}
-use Rattle.ghash_parked.specs.declared.layout.Found.TheVariants.{One, Nothing}
 use Rattle.ghash_parked.specs.Layout.{counts4, at_y, at_block, at_count_a, at_count_c, at_phase, at_spare, size}
 use Rattle.ghash_parked.specs.Record.{record_bytes, state_at, accepted}
 use Rattle.ghash_parked.specs.Park.{Reading, refused, read_as, read_by, park_number, unparked}
@@ -72,7 +64,7 @@ taken_is bytes e = let t = go (eqb (length bytes) 48) e in (eqb-true (length byt
     passed s true e = refl
     passed s false e = absurd (omega arith)
 
-    go : (t : Bool) → (read_by (cond t (One counts4) Nothing) bytes).number ≡ 0 → (t ≡ true) × (accepted counts4 bytes ≡ true)
+    go : (t : Bool) → (read_by (cond t (Some counts4) None) bytes).number ≡ 0 → (t ≡ true) × (accepted counts4 bytes ≡ true)
     go true e = (refl, passed (state_at counts4 bytes) (accepted counts4 bytes) e)
     go false e = absurd (omega arith)
 

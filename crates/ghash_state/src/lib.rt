@@ -1,8 +1,9 @@
 // What a running hash holds, and when it is malformed.
 #![tactic(auto)]
 
-ghost use Rattle.std.specs.Prelude.{◌≡◌, not, ◌&&◌, eqb, drop};
-ghost use Rattle.ghash_state.specs.State.{view, state_of, spare_zeros, Fresh, part_of};
+ghost use Rattle.std.specs.Prelude.{◌≡◌, drop};
+ghost use Rattle.ghash_block.specs.Block.{value_of};
+ghost use Rattle.ghash_state.specs.State.{view, state_of, spare_zeros, Fresh, part_of, held, none_open};
 ghost use Rattle.gf128.specs.Running.{all_zero, open_bytes, malformed};
 
 use ghash_block::block::Block;
@@ -11,7 +12,7 @@ use ghash_block::block::Block;
 pub const LIMIT: usize = 1048576;
 
 // Y, the open block, the bytes of A and of C so far, and the phase: 0 takes A, 1 takes C, 2 is finished. The spare bytes
-// fill the struct up, so that no byte of a caller's struct is left to chance.
+// fill the struct up, so that no byte of a caller's struct is left to chance. C has this struct, so the phase is a number.
 #[repr(C)]
 #[derive(Clone, Copy)]
 pub struct Running {
@@ -30,90 +31,73 @@ pub struct Part {
     pub bytes: [u8; 16],
 }
 
+impl Part {
+    // Y with no byte open.
+    pub fn none_open(y: Block) -> Part
+        ensures { part_of result ≡ none_open (value_of y) }
+    {
+        Part { y, bytes: [0; 16] }
+    }
+}
+
+// Y and the open block of a running hash.
+impl From<Running> for Part {
+    ghost from_gives = { λ s p. part_of p ≡ held (view s) };
+
+    fn from(state: Running) -> Part {
+        let bytes = state.open_block;
+        Part { y: state.y, bytes }
+    }
+}
+
 impl Running {
     pub fn new() -> Running
         ensures { Fresh result }
     {
-        let none = Part {
-            y: Block::ZERO,
-            bytes: [0u8; 16],
-        };
-        Running::of(none, 0, 0, 0)
+        Running::of(Part::none_open(Block::ZERO), 0, 0, 0)
     }
 
     // What a call that is done leaves: its spare bytes are zeros.
-    pub fn of(p: Part, a_count: u32, c_count: u32, phase: u8) -> Running
-        ensures { (view result ≡ state_of (part_of p) a_count c_count phase) × (result.spare ≡ spare_zeros) }
+    pub fn of(part: Part, a_count: u32, c_count: u32, phase: u8) -> Running
+        ensures { (view result ≡ state_of (part_of part) a_count c_count phase) × (result.spare ≡ spare_zeros) }
     {
-        let y = p.y;
-        let bytes = p.bytes;
+        let bytes = part.bytes;
         Running {
-            y,
+            y: part.y,
             open_block: bytes,
             a_count,
             c_count,
             phase,
-            spare: [0u8; 7],
+            spare: [0; 7],
         }
     }
-}
 
-// The bytes of the open block that are in use: the count of the current part modulo 16; none in phase 2.
-fn open_bytes(state: Running) -> usize
-    ensures { result ≡ open_bytes (view state) }
-{
-    if state.phase == 0 {
-        return (state.a_count % 16) as usize;
+    // The bytes of the open block that are in use: the count of the current part modulo 16; none in phase 2.
+    fn open_bytes(self) -> usize
+        ensures { result ≡ open_bytes (view self) }
+    {
+        match self.phase {
+            0 => (self.a_count % 16) as usize,
+            1 => (self.c_count % 16) as usize,
+            _ => 0,
+        }
     }
-    if state.phase == 1 {
-        return (state.c_count % 16) as usize;
+
+    // In phase 0 no byte of C is counted, and the open block's bytes that are not in use are zeros.
+    pub fn is_malformed(self) -> bool
+        ensures { result ≡ malformed (view self) }
+    {
+        2 < self.phase
+            || LIMIT < self.a_count as usize
+            || LIMIT < self.c_count as usize
+            || (self.phase == 0 && self.c_count != 0)
+            || !zeros_from(&self.open_block, self.open_bytes())
     }
-    0
 }
 
 // Whether all bytes from a place on are zeros.
 pub fn zeros_from(s: &[u8], from: usize) -> bool
     ensures { result ≡ all_zero (drop from s.now) }
 {
-    let mut i = from;
-    while i < s.len() {
-        if s[i] != 0 {
-            return false;
-        }
-        i += 1;
-    }
-    true
-}
-
-// Bytes of C are counted before C has begun.
-fn early(state: Running) -> bool
-    ensures { result ≡ (eqb (view state).phase 0 && not (eqb (view state).count_c 0)) }
-{
-    if state.phase == 0 {
-        return state.c_count != 0;
-    }
-    false
-}
-
-pub fn malformed(state: Running) -> bool
-    ensures { result ≡ malformed (view state) }
-{
-    if 2 < state.phase {
-        return true;
-    }
-    if LIMIT < state.a_count as usize {
-        return true;
-    }
-    if LIMIT < state.c_count as usize {
-        return true;
-    }
-    if early(state) {
-        return true;
-    }
-    let bytes = state.open_block;
-    let from = open_bytes(state);
-    if zeros_from(&bytes, from) {
-        return false;
-    }
-    true
+    s.iter().skip(from).all(|b| *b == 0)
 }

@@ -3,6 +3,7 @@
 use Rattle.std.specs.Prelude.{◌≡◌, List, ℕ}
 use Rattle.ghash_block.specs.declared.block.Key.{Key}
 use Rattle.ghash_step.specs.declared.Path.{Path}
+use Rattle.ghash_step.specs.declared.PreparedKey.{PreparedKey}
 use Rattle.ghash_step.specs.declared.Path.TheVariants.{Plain, Fast}
 use Rattle.ghash_block.specs.Block.{key_of}
 use Rattle.ghash_tables.specs.Table.{TableOf}
@@ -14,6 +15,10 @@ tables_for Fast h t = TableOf h t
 -- the tables that a call multiplies with are the key's; the plain path needs none
 pub record Serves (path : Path) (key : Key) (t : List ℕ) : Type 0 where
   pub tables : tables_for path (key_of key) t
+
+-- the same of a key made ready for a path
+abbrev pub IsPrepared : PreparedKey → Type 0
+IsPrepared k = Serves k.path k.key k.numbers.now
 
 -- what `put_tables` makes of the tables t: those of the key for the fast path; for the plain path they stay as they were
 abbrev pub tables_put : Path → ℕ → List ℕ → List ℕ → Type 0

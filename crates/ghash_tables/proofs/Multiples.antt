@@ -1,17 +1,10 @@
 -- The laws of the fast path's tables. Main results: `reduced` (the reductions' rule, by one test), `overflow-more` (the reduction of
 -- more than four coefficients), `sixteen-put` (the multiples, four at a time) and `next-table`.
 -- Assumes nothing.
-use mathlib.Core.Path.{◌≡◌, refl, sym, ap, ap₂, ◌∙◌, subst}
-use mathlib.Core.Bool.{Bool, ◌&&◌}
-use mathlib.Core.List.{List}
-use mathlib.Core.Logic.{⊎_elim}
-use Prim.Native.Nat.{ℕ, zero, suc, ◌+◌, ◌-◌, ◌*◌, ◌/◌, ◌%◌, ◌^◌, ◌<◌, ◌≤◌}
-use native.Mathlib.Nat.{zero-div, add-zero, add_assoc, add_comm, mul_assoc, mul_comm, eq-zero-or-pos, not-suc-le-zero}
-use native.Mathlib.Omega.{arith}
-use lib.Pow.{split, shr-shr, field, mod-mod-pow}
-use lib.Bits.{bit_xor, xor_lt, xor_mod}
-use lib.Dec.{T, eqb, eqb→eq, lit<}
-use lib.ListN.{length, get_or}
+use Rattle.std.proofs.Common.{◌≡◌, refl, sym, ap, ap₂, ◌∙◌, subst, Bool, ◌&&◌, List, ⊎_elim, ℕ, zero, suc, ◌+◌, ◌-◌, ◌*◌, ◌/◌, ◌%◌, ◌^◌, ◌<◌, ◌≤◌, add-zero, add_assoc, add_comm, mul_assoc, mul_comm, eq-zero-or-pos, not-suc-le-zero, arith, shr-shr, bit_xor, T, eqb, eqb→eq, lit<, length, get_or}
+use native.Mathlib.Nat.{zero-div}
+use lib.Pow.{split, field, mod-mod-pow}
+use lib.Bits.{xor_lt, xor_mod}
 use lib.Seq.{sets, length-sets}
 use Rattle.gf128.specs.Field.{times_x, shifted_of, reduction, shifted, product}
 use Rattle.gf128.proofs.Nibbles.{shifted_of-multiple, product_of-place, product_of-digits}

@@ -10,7 +10,7 @@ ghost use Rattle.gf128.specs.Field.{shifted};
 use ghash_block::block::{Block, Key};
 use ghash_plain::times_x;
 
-// The numbers in a key's tables: four tables of sixteen blocks, then the reductions.
+// The numbers in a key's tables: four tables of sixteen blocks, then the reductions. One array, since it is lent whole and there is no heap.
 pub const TABLES: usize = 144;
 
 // The sixteen reductions of a four-bit overflow: the high half of each. The low halves are zero.
@@ -38,25 +38,23 @@ fn put_reductions(t: &mut [u64])
     requires { length t.old ≡ 144 }
     ensures { ReductionsPut t.old t.new }
 {
+    // Not `copy_from_slice`, which on RISC-V calls memcpy in each trap and each product.
     let r = REDUCTIONS;
-    let mut n: usize = 0;
-    while n < 16 {
+    for n in 0..16 {
         t[128 + n] = r[n];
-        n += 1;
     }
 }
 
 // The high half of what the last 32 coefficients of v come back as, when they leave. The low half is zero.
+// It takes no `Tables`: it is called while they are filled, when the reductions stand alone.
 fn reduced(t: &[u64; TABLES], v: u64) -> u64
     ensures { ReductionsIn t.now → result * 2 ^ 64 ≡ shifted (v % 2 ^ 32) 32 }
 {
     let mut high: u64 = 0;
     let mut rest = v;
-    let mut i: u64 = 0;
-    while i < 8 {
+    for _ in 0..8u32 {
         high = (high / 16) ^ t[128 + (rest % 16) as usize];
-        rest = rest / 16;
-        i += 1;
+        rest /= 16;
     }
     high
 }
@@ -107,12 +105,28 @@ pub fn fill_tables(t: &mut [u64; TABLES], h: Key)
     ensures { TableOf (key_of h) t.new }
 {
     put_reductions(t);
-    let mut v = Block::of_key(h);
+    let mut v = Block::from(h);
     put_multiples(t, 0, v);
-    let mut q: usize = 0;
-    while q < 3 {
+    for q in 1..4 {
         v = times_x32(t, v);
-        q += 1;
         put_multiples(t, 32 * q, v);
+    }
+}
+
+// A key with its tables. The numbers are lent, since a returned array would be copied.
+#[derive(Clone, Copy)]
+pub struct Tables<'a> {
+    pub key: Key,
+    pub numbers: &'a [u64; TABLES],
+    pub ghost of_key: { TableOf (key_of key) numbers.now },
+}
+
+impl<'a> Tables<'a> {
+    // Fills the numbers with the key's tables.
+    pub fn fill(key: Key, numbers: &'a mut [u64; TABLES]) -> Tables<'a>
+        ensures { result.key ≡ key }
+    {
+        fill_tables(numbers, key);
+        Tables { key, numbers }
     }
 }

@@ -22,10 +22,8 @@ pub fn fill(p: Pattern, s: &mut [u8])
     ensures { s.new ≡ filled p (length s.old) }
 {
     let mut b = p.0;
-    let mut i: usize = 0;
-    while i < s.len() {
-        s[i] = (b % 256) as u8;
+    for byte in s.iter_mut() {
+        *byte = (b % 256) as u8;
         b = p.next(b);
-        i += 1;
     }
 }

@@ -9,7 +9,7 @@ use lib.Seq.{take-add}
 use Rattle.gf128.specs.Pieces.{joined, fed_all, answers, fed_all_a, answers_a, fed_all_c, answers_c, run_of}
 use Rattle.gf128.specs.Running.{State, fresh, feed_a_refusal, after_feed_a, finish_refusal, finish_block}
 use Rattle.ghash_running.specs.Answers.{Finishes}
-use Rattle.ghash_running.specs.declared.Fed.{Fed}
+use Rattle.known_hashes.specs.declared.pieces.SoFar.{SoFar}
 use Rattle.ghash_block.specs.declared.block.Block.{Block}
 use Rattle.ghash_state.specs.State.{view}
 use Rattle.ghash_state.specs.declared.Running.{Running}
@@ -43,11 +43,11 @@ last-both n (m ∷ ms) ks = last-both m ms ks
 taken : (s : List ℕ) (at end : ℕ) → at ≤ end → take at s ++ take (end - at) (drop at s) ≡ take end s
 taken s at end l = let all : at + (end - at) ≡ end = omega arith in sym (take-add at (end - at) s) ∙ ap (λ (n : ℕ). take n s) all
 
-pub none-fed : (part : Part) (key s : List ℕ) (before : Fed) → FedIn part key before (take 0 s) before
+pub none-fed : (part : Part) (key s : List ℕ) (before : SoFar) → FedIn part key before (take 0 s) before
 unfolding joined fed_all answers last_or
 none-fed part key s before = record { pieces = []; whole = refl; state = refl; number = refl }
 
-module _ (part : Part) (key s : List ℕ) (before last next : Fed) where
+module _ (part : Part) (key s : List ℕ) (before last next : SoFar) where
   pub one-fed : (at end : ℕ) → at ≤ end → FedIn part key before (take at s) last → FeedsIn part key last.state (take (end - at) (drop at s)) next
       → FedIn part key before (take end s) next
   one-fed at end l f u =
@@ -64,7 +64,7 @@ module _ (part : Part) (key s : List ℕ) (before last next : Fed) where
 -- ---- all of them
 
 -- A after an empty piece, then C
-pub all-fed : (key a c : List ℕ) (begin : Running) (begun after-a after-c : Fed) → view begin ≡ fresh → FeedsIn A key begin [] begun
+pub all-fed : (key a c : List ℕ) (begin : Running) (begun after-a after-c : SoFar) → view begin ≡ fresh → FeedsIn A key begin [] begun
     → FedIn A key begun a after-a → FedIn C key after-a c after-c → FedAll key a c after-c
 unfolding joined fed_all answers last_or
 all-fed key a c begin begun after-a after-c new first in-a feeds_c =
@@ -91,7 +91,7 @@ all-fed key a c begin begun after-a after-c new first in-a feeds_c =
     }
 
 -- and the end
-pub all-in-pieces : (key a c : List ℕ) (last : Fed) (n : ℕ) (t : Running) (b : Block) → FedAll key a c last → Finishes key last.state n t b
+pub all-in-pieces : (key a c : List ℕ) (last : SoFar) (n : ℕ) (t : Running) (b : Block) → FedAll key a c last → Finishes key last.state n t b
     → InPieces key a c (record { block = b; number = bit_or last.number n })
 unfolding run_of
 all-in-pieces key a c last n t b f e = record {

@@ -5,11 +5,11 @@ use Rattle.std.specs.Int.Bits.{bit_or}
 use Rattle.gf128.specs.Pieces.{joined, fed_all, answers, fed_all_a, answers_a, fed_all_c, answers_c, run_of}
 use Rattle.gf128.specs.Running.{State, fresh, feed_a_refusal, feed_c_refusal, finish_refusal, after_feed_a, after_feed_c}
 use Rattle.ghash_block.specs.Block.{value_of}
-use Rattle.ghash_block.specs.declared.answer.Answer.{Answer}
 use Rattle.ghash_running.specs.Answers.{Updates}
-use Rattle.ghash_running.specs.declared.Fed.{Fed}
 use Rattle.ghash_state.specs.State.{view}
 use Rattle.ghash_state.specs.declared.Running.{Running}
+use Rattle.known_compare.specs.declared.compare.Seen.{Seen}
+use Rattle.known_hashes.specs.declared.pieces.SoFar.{SoFar}
 use Rattle.known_hashes.specs.declared.pieces.Part.{Part}
 use Rattle.known_hashes.specs.declared.pieces.Part.TheVariants.{A, C}
 
@@ -22,7 +22,7 @@ abbrev pub after_in : Part → List ℕ → State → List ℕ → State
 after_in A key = after_feed_a key
 after_in C key = after_feed_c key
 
-abbrev pub FeedsIn : Part → List ℕ → Running → List ℕ → Fed → Type 0
+abbrev pub FeedsIn : Part → List ℕ → Running → List ℕ → SoFar → Type 0
 FeedsIn part key s piece r = Updates (refusal_in part key (view s) piece) (after_in part key (view s) piece) s r.number r.state
 
 -- the last number of a list, n where it is empty
@@ -31,7 +31,7 @@ last_or n [] = n
 last_or n (m ∷ ms) = last_or m ms
 
 -- s was fed in some pieces after `before`; r is the answer to the last of them
-pub record FedIn (part : Part) (key : List ℕ) (before : Fed) (s : List ℕ) (r : Fed) : Type 0 where
+pub record FedIn (part : Part) (key : List ℕ) (before : SoFar) (s : List ℕ) (r : SoFar) : Type 0 where
   pub pieces : List (List ℕ)
   pub whole : joined pieces ≡ s
   pub state : view r.state ≡ fed_all (after_in part key) (view before.state) pieces
@@ -42,7 +42,7 @@ abbrev pub last_number : List ℕ → List (List ℕ) → List (List ℕ) → �
 last_number key ps qs = last_or 0 (answers_a key fresh ps ++ answers_c key (fed_all_a key fresh ps) qs)
 
 -- A and C were fed in some pieces to a fresh running hash
-pub record FedAll (key a c : List ℕ) (r : Fed) : Type 0 where
+pub record FedAll (key a c : List ℕ) (r : SoFar) : Type 0 where
   pub in_a : List (List ℕ)
   pub in_c : List (List ℕ)
   pub whole_a : joined in_a ≡ a
@@ -51,7 +51,7 @@ pub record FedAll (key a c : List ℕ) (r : Fed) : Type 0 where
   pub number : r.number ≡ last_number key in_a in_c
 
 -- the hash of A and C in some pieces, with the number of the last piece or of the end
-pub record InPieces (key a c : List ℕ) (r : Answer) : Type 0 where
+pub record InPieces (key a c : List ℕ) (r : Seen) : Type 0 where
   pub in_a : List (List ℕ)
   pub in_c : List (List ℕ)
   pub whole_a : joined in_a ≡ a

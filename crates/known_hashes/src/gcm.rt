@@ -5,6 +5,7 @@ ghost use Rattle.known_hashes.specs.Gcm.{a_end, record_end};
 use crate::hashes::{Way, hash_answer};
 use crate::pieces::Mix;
 use ghash_bytes::block_at;
+use ghash_step::Path;
 use known_bytes::place::counted_end;
 use known_report::data_file::read;
 use known_report::report::report;
@@ -52,6 +53,7 @@ fn record(agreed: u64, way: Way, s: &[u8]) -> u64 {
 fn records(agreed: u64, way: Way, s: &[u8]) -> u64 {
     let mut n = agreed;
     let mut at: usize = 0;
+    // A while: the step is the record's own length.
     while at < s.len() {
         let end = record_end(s, at);
         n = record(n, way, &s[at..end]);
@@ -64,13 +66,13 @@ fn whole(rt: &impl Print, s: &[u8]) -> io::Result<()> {
     report(
         rt,
         b"NIST GCM vectors, whole, plain path",
-        records(0, Way::Plain, s),
+        records(0, Way::Whole(Path::Plain), s),
         450,
     )?;
     report(
         rt,
         b"NIST GCM vectors, whole, fast path",
-        records(0, Way::Fast, s),
+        records(0, Way::Whole(Path::Fast), s),
         450,
     )
 }
@@ -94,6 +96,7 @@ fn all(rt: &impl Print, s: &[u8]) -> io::Result<()> {
 }
 
 pub fn run(rt: &(impl Files + Print + Eprint)) -> io::Result<()> {
+    // Fixed memory, as everywhere below: the file is read whole, and `n` bytes of it are there.
     let mut buffer = [0u8; 65536];
     let n = read(rt, b"gcm.bin", &mut buffer);
     all(rt, &buffer[..n])

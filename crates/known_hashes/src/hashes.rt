@@ -4,25 +4,23 @@ ghost use Rattle.ghash_block.specs.Block.{value_of};
 ghost use Rattle.known_hashes.specs.Counted.{HashedBy, Counted};
 
 use crate::pieces::{Mix, in_pieces};
-use ghash_block::answer::Answer;
 use ghash_block::block::Block;
-use ghash_whole::{ghash_fast, ghash_plain};
-use known_compare::compare::{answer, block_bytes};
+use ghash_step::Path;
+use ghash_whole::ghash;
+use known_compare::compare::{Seen, answer, block_bytes};
 
-// Whole on either path, or in pieces of some bytes.
+// Whole on a path, or in pieces of some bytes.
 #[derive(Clone, Copy)]
 pub enum Way {
-    Plain,
-    Fast,
+    Whole(Path),
     Pieces(Mix, usize),
 }
 
-fn hash(way: Way, key: &[u8], a: &[u8], c: &[u8]) -> Answer
+fn hash(way: Way, key: &[u8], a: &[u8], c: &[u8]) -> Seen
     ensures { HashedBy way key.now a.now c.now result }
 {
     match way {
-        Way::Plain => ghash_plain(key, a, c),
-        Way::Fast => ghash_fast(key, a, c),
+        Way::Whole(path) => Seen::from(ghash(path, key, a, c)),
         Way::Pieces(mix, size) => in_pieces(mix, size, key, a, c),
     }
 }

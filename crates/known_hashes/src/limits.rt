@@ -5,6 +5,7 @@ use crate::pieces::Mix;
 use ghash_block::block::Block;
 use ghash_bytes::block_at;
 use ghash_state::LIMIT;
+use ghash_step::Path;
 use known_bytes::pattern::{Pattern, fill};
 use known_report::data_file::read;
 use known_report::report::report;
@@ -19,8 +20,8 @@ const OF_C: Pattern = Pattern(5, 11, 253);
 fn at_limit(agreed: u64, s: &[u8], key: usize, hash: usize, a: &[u8], c: &[u8]) -> u64 {
     let h = block_at(s, key);
     let y = block_at(s, hash);
-    let mut n = hash_answer(agreed, Way::Plain, h, a, c, 0, y);
-    n = hash_answer(n, Way::Fast, h, a, c, 0, y);
+    let mut n = hash_answer(agreed, Way::Whole(Path::Plain), h, a, c, 0, y);
+    n = hash_answer(n, Way::Whole(Path::Fast), h, a, c, 0, y);
     hash_answer(n, Way::Pieces(Mix::Turns, 65521), h, a, c, 0, y)
 }
 
@@ -34,8 +35,8 @@ fn longest(rt: &impl Print, s: &[u8], none: &[u8], a: &[u8], c: &[u8]) -> io::Re
 
 // One byte more, whole: 11 and the zero block.
 fn past_limit(agreed: u64, h: Block, a: &[u8], c: &[u8]) -> u64 {
-    let n = hash_answer(agreed, Way::Plain, h, a, c, 11, Block::ZERO);
-    hash_answer(n, Way::Fast, h, a, c, 11, Block::ZERO)
+    let n = hash_answer(agreed, Way::Whole(Path::Plain), h, a, c, 11, Block::ZERO);
+    hash_answer(n, Way::Whole(Path::Fast), h, a, c, 11, Block::ZERO)
 }
 
 fn whole(rt: &impl Print, s: &[u8], none: &[u8], a: &[u8], c: &[u8]) -> io::Result<()> {
@@ -100,6 +101,7 @@ fn all(rt: &impl Print, s: &[u8]) -> io::Result<()> {
 }
 
 pub fn run(rt: &(impl Files + Print + Eprint)) -> io::Result<()> {
+    // Fixed memory, as everywhere below: the file is read whole, and `n` bytes of it are there.
     let mut buffer = [0u8; 96];
     let n = read(rt, b"limits.bin", &mut buffer);
     all(rt, &buffer[..n])

@@ -1,21 +1,17 @@
 // Document 01's marked cases on products, hashes and steps back: K6 to K11, K13 and K14.
 use crate::hashes::{Way, hash_answer};
 use ghash_block::block::Block;
-use ghash_fast::product_fast_bytes;
 use ghash_inverse::step_back::step_back_bytes;
-use ghash_plain::product_plain_bytes;
-use known_compare::compare::answer;
+use ghash_step::{Path, product_bytes};
+use known_compare::compare::{Seen, answer};
 use known_report::report::report_marked;
 use std::io;
 
 fn products(rt: &impl Print, k: u64, block: &[u8], key: &[u8], expected: Block) -> io::Result<()> {
-    let n = answer(0, product_plain_bytes(key, block), 0, expected);
-    report_marked(
-        rt,
-        k,
-        answer(n, product_fast_bytes(key, block), 0, expected),
-        2,
-    )
+    let plain = Seen::from(product_bytes(Path::Plain, key, block));
+    let fast = Seen::from(product_bytes(Path::Fast, key, block));
+    let n = answer(0, plain, 0, expected);
+    report_marked(rt, k, answer(n, fast, 0, expected), 2)
 }
 
 // U·H on both paths; U and H by their first and last byte, with zeros between.
@@ -47,18 +43,18 @@ fn step_back(
     let key = [h0, 0, 0, 0, 0, 0, 0, 0, 0, 0, 0, 0, 0, 0, 0, 0];
     let x = [0u8; 16];
     let later = [y0, 0, 0, 0, 0, 0, 0, 0, 0, 0, 0, 0, 0, 0, 0, 0];
-    let a = step_back_bytes(&key, &x, &later);
+    let a = Seen::from(step_back_bytes(&key, &x, &later));
     report_marked(rt, k, answer(0, a, number, Block(high, low)), 1)
 }
 
 // The hash with A empty, on both paths.
 fn hash(rt: &impl Print, k: u64, h: Block, c: &[u8], expected: Block) -> io::Result<()> {
     let none = [0u8; 0];
-    let n = hash_answer(0, Way::Plain, h, &none, c, 0, expected);
+    let n = hash_answer(0, Way::Whole(Path::Plain), h, &none, c, 0, expected);
     report_marked(
         rt,
         k,
-        hash_answer(n, Way::Fast, h, &none, c, 0, expected),
+        hash_answer(n, Way::Whole(Path::Fast), h, &none, c, 0, expected),
         2,
     )
 }

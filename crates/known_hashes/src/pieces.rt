@@ -1,18 +1,17 @@
 // A message cut into pieces for the running hash.
-ghost use Rattle.std.specs.Prelude.{◌<◌, ◌≤◌};
-ghost use Rattle.ghash_running.specs.Answers.{FeedsA, FeedsC, Finishes};
+ghost use Rattle.std.specs.Prelude.{◌≡◌, ◌<◌, ◌≤◌};
+ghost use Rattle.ghash_running.specs.Answers.{finished_hash};
 ghost use Rattle.known_hashes.specs.Pieces.{FeedsIn, FedIn, FedAll, InPieces};
 
-use ghash_block::answer::Answer;
-use ghash_paths::{
-    fed_a_fast, fed_a_plain, fed_c_fast, fed_c_plain, finished_fast, finished_plain,
-};
-use ghash_running::{Fed, Finished};
+use ghash_block::block::Block;
+use ghash_running::{Finished, feed_a, feed_c, finish};
 use ghash_state::Running;
 use ghash_step::Path;
+use known_compare::compare::Seen;
 use octets_slice::part_end;
+use refusal::{Refusal, number_of};
 
-// Which path each call takes.
+// Which path each call takes: a part of a case's name, and so no closure.
 #[derive(Clone, Copy)]
 pub enum Mix {
     Plain,
@@ -41,39 +40,24 @@ fn path_of(mix: Mix, turn: usize) -> Path {
     }
 }
 
-fn fed_a(path: Path, state: Running, key: &[u8], piece: &[u8]) -> Fed
-    ensures { FeedsA key.now state piece.now result.number result.state }
-{
-    match path {
-        Path::Plain => fed_a_plain(state, key, piece),
-        Path::Fast => fed_a_fast(state, key, piece),
-    }
+// What the calls gave so far: the last one's number, and the running hash, which a refusal leaves as it was. No Result: after a refusal
+// the next piece is fed all the same.
+#[derive(Clone, Copy)]
+pub struct SoFar {
+    pub number: u32,
+    pub state: Running,
 }
 
-fn fed_c(path: Path, state: Running, key: &[u8], piece: &[u8]) -> Fed
-    ensures { FeedsC key.now state piece.now result.number result.state }
-{
-    match path {
-        Path::Plain => fed_c_plain(state, key, piece),
-        Path::Fast => fed_c_fast(state, key, piece),
-    }
-}
-
-fn fed(part: Part, path: Path, state: Running, key: &[u8], piece: &[u8]) -> Fed
+fn fed(part: Part, path: Path, state: Running, key: &[u8], piece: &[u8]) -> SoFar
     ensures { FeedsIn part key.now state piece.now result }
 {
-    match part {
-        Part::A => fed_a(path, state, key, piece),
-        Part::C => fed_c(path, state, key, piece),
-    }
-}
-
-fn finished(path: Path, state: Running, key: &[u8]) -> Finished
-    ensures { Finishes key.now state result.number result.state result.block }
-{
-    match path {
-        Path::Plain => finished_plain(state, key),
-        Path::Fast => finished_fast(state, key),
+    let answer = match part {
+        Part::A => feed_a(path, state, key, piece),
+        Part::C => feed_c(path, state, key, piece),
+    };
+    SoFar {
+        number: number_of(answer),
+        state: answer.unwrap_or(state),
     }
 }
 
@@ -89,11 +73,12 @@ fn piece_end(at: usize, size: usize, len: usize) -> usize
 }
 
 // The answer to the last piece of s, in pieces of `size` bytes.
-fn feed(part: Part, mix: Mix, size: usize, before: Fed, key: &[u8], s: &[u8]) -> Fed
+fn feed(part: Part, mix: Mix, size: usize, before: SoFar, key: &[u8], s: &[u8]) -> SoFar
     ensures { FedIn part key.now before s.now result }
 {
     let mut last = before;
     let mut at: usize = 0;
+    // A while: the piece's end is computed, and its place tells the path.
     while at < s.len() {
         let end = piece_end(at, size, s.len());
         let state = last.state;
@@ -104,7 +89,7 @@ fn feed(part: Part, mix: Mix, size: usize, before: Fed, key: &[u8], s: &[u8]) ->
 }
 
 // The answer to the last piece of a message, an empty piece of A first.
-fn fed_all(mix: Mix, size: usize, key: &[u8], a: &[u8], c: &[u8]) -> Fed
+fn fed_all(mix: Mix, size: usize, key: &[u8], a: &[u8], c: &[u8]) -> SoFar
     ensures { FedAll key.now a.now c.now result }
 {
     let none = [0u8; 0];
@@ -113,17 +98,22 @@ fn fed_all(mix: Mix, size: usize, key: &[u8], a: &[u8], c: &[u8]) -> Fed
     feed(Part::C, mix, size, after_a, key, c)
 }
 
+// The hash of a finished run; the zero block on a refusal.
+fn hash_of(end: Result<Finished, Refusal>) -> Block
+    ensures { result ≡ finished_hash end }
+{
+    end.map_or(Block::ZERO, |finished| finished.hash)
+}
+
 // The hash of a message in pieces of `size` bytes. Where the last piece is refused, the number is that refusal's and the hash that of
 // the pieces before it.
-pub fn in_pieces(mix: Mix, size: usize, key: &[u8], a: &[u8], c: &[u8]) -> Answer
+pub fn in_pieces(mix: Mix, size: usize, key: &[u8], a: &[u8], c: &[u8]) -> Seen
     ensures { InPieces key.now a.now c.now result }
 {
     let last = fed_all(mix, size, key, a, c);
-    let state = last.state;
-    let end = finished(path_of(mix, size), state, key);
-    let block = end.block;
-    Answer {
-        number: last.number | end.number,
-        block,
+    let end = finish(path_of(mix, size), last.state, key);
+    Seen {
+        number: last.number | number_of(end),
+        block: hash_of(end),
     }
 }

@@ -5,7 +5,7 @@ use std::fs;
 use std::io::Read;
 use std::rt::Files;
 
-// Opens the file. Where that fails, standard error says why.
+// Opens the file. Where that fails, standard error says why. The path is bytes, as `read` takes any.
 fn open<R: Files + Eprint>(rt: &R, path: &[u8]) -> Option<R::File> {
     let Ok(name) = str::from_utf8(path) else {
         let _ = eprintln!(rt; "{path:?}: a path is text");
@@ -25,6 +25,7 @@ fn read_full(file: &mut impl Read, buffer: &mut [u8]) -> usize
     ensures { IsPrefixLen result buffer.new }
 {
     let mut done: usize = 0;
+    // A while: each step is as long as what was read. std's `read_exact` does not say how much it read before the end.
     while done < buffer.len() {
         let n = file.read(&mut buffer[done..]).unwrap_or(0);
         if n == 0 {

@@ -7,7 +7,7 @@ fn end_line(out: &mut impl Write, agreed: u64, tried: u64) -> io::Result<()> {
     writeln!(out, ": {agreed} of {tried} agree")
 }
 
-// A line with a name.
+// A line with a name. Bytes and no text: `Display` would ask more of a caller, and so there are two functions.
 pub fn report(rt: &impl Print, name: &[u8], agreed: u64, tried: u64) -> io::Result<()> {
     let mut out = io::writer(rt);
     out.write_all(name)?;

@@ -1,13 +1,13 @@
 -- Document 01's marked cases on words: K1 to K5 on one element, and K12.
 -- Assumes nothing.
-use Rattle.std.specs.Prelude.{false, List, ◌≡◌, ℕ, ◌/◌}
+use Rattle.std.specs.Prelude.{false, List, ◌≡◌, ℕ, ◌/◌, Option, Some}
 use Rattle.octets.specs.LittleEndian.{write_le}
 use Rattle.vector_registers.specs.declared.settings.Settings.{Settings}
 use Rattle.vector_refusal.specs.Refusal.{refusal_of}
 use Rattle.vector_execute.specs.Execute.{executed}
 use Rattle.vector_kind.specs.declared.Kind.TheVariants.{VghshVv}
-use Rattle.vector_word.specs.declared.Word.{Word}
-use Rattle.vector_word.specs.declared.Word.TheVariants.{Known}
+use Rattle.vector_word.specs.declared.Instruction.{Instruction}
+use Rattle.vector_word.specs.Word.{instruction}
 use Rattle.known_words.specs.Call.{before}
 
 -- the settings of a word on one element of registers of 16 bytes
@@ -24,5 +24,5 @@ pub record Becomes (word sew a b element : ℕ) : Type 0 where
   pub file : executed word (one_element sew) 0 (elements 512 sew a b) ≡ write_le (sew / 8) (elements 512 sew a b) 16 element
 
 -- vghsh.vv with vd 4, vs2 8, vs1 12
-abbrev pub k12 : Word
-k12 = Known VghshVv (record { vm = 1; vs2 = 8; vs1 = 12; vd = 4 })
+abbrev pub k12 : Option Instruction
+k12 = Some (instruction VghshVv (record { vm = 1; vs2 = 8; vs1 = 12; vd = 4 }))

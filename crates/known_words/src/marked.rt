@@ -1,5 +1,5 @@
 // Document 01's marked cases on words: K1 to K5 and K12.
-ghost use Rattle.std.specs.Prelude.{true, ◌≡◌, ◌≤◌, ◌/◌, eqb, length};
+ghost use Rattle.std.specs.Prelude.{◌≡◌, ◌↔◌, ◌≤◌, ◌/◌, IsTrue, ◌==◌, length};
 ghost use Rattle.octets.specs.LittleEndian.{write_le};
 ghost use Rattle.vector_refusal.specs.Refusal.{refusal_of};
 ghost use Rattle.vector_execute.specs.Execute.{executed};
@@ -10,12 +10,11 @@ use known_bytes::pattern::fill;
 use known_compare::tally::count;
 use known_report::report::report_marked;
 use octets_le::write_le;
-use octets_slice::same;
 use std::io;
 use vector_execute::execute::execute;
 use vector_kind::Kind;
 use vector_registers::settings::Settings;
-use vector_word::{Word, decode};
+use vector_word::{Fields, Instruction, decode};
 
 // vclmul.vv v1, v2, v3 and vclmulh.vv v1, v2, v3.
 const VCLMUL: u32 = 0x3221A0D7;
@@ -42,10 +41,10 @@ fn put_elements(file: &mut [u8], sew: u32, a: u64, b: u64)
 
 // Executes a word on one element; whether it is done.
 fn executes(word: u32, sew: u32, file: &mut [u8]) -> bool
-    ensures { (result ≡ eqb (refusal_of (length file.old) word (one_element sew)) 0)
+    ensures { (result ≡ (refusal_of (length file.old) word (one_element sew) == 0))
         × (file.new ≡ executed word (one_element sew) 0 file.old) }
 {
-    let s = Settings {
+    let mut s = Settings {
         vlen: 128,
         sew,
         lmul: 1,
@@ -54,14 +53,13 @@ fn executes(word: u32, sew: u32, file: &mut [u8]) -> bool
         vl: 1,
         vstart: 0,
     };
-    let e = execute(word, s, 0, file);
-    e.number == 0
+    execute(word, &mut s, 0, file).is_ok()
 }
 
 // A word on v1, v2 and v3 makes this of element 0 of v1 and changes nothing else, where that of v2 is a, and that of v3 b.
 fn element_becomes(word: u32, sew: u32, a: u64, b: u64, element: u64) -> bool
     requires { sew ≤ 64 }
-    ensures { (result ≡ true → Becomes word sew a b element) × (Becomes word sew a b element → result ≡ true) }
+    ensures { IsTrue result ↔ Becomes word sew a b element }
 {
     let mut file = [0u8; 512];
     let mut expected = [0u8; 512];
@@ -69,7 +67,7 @@ fn element_becomes(word: u32, sew: u32, a: u64, b: u64, element: u64) -> bool
     put_elements(&mut expected, sew, a, b);
     put_element(&mut expected, 16, sew, element);
     let ok = executes(word, sew, &mut file);
-    ok & same(&file, &expected)
+    ok & (file == expected)
 }
 
 // Elements a by b.
@@ -102,15 +100,19 @@ fn elements(rt: &impl Print) -> io::Result<()> {
 }
 
 // vghsh.vv with vd 4, vs2 8, vs1 12.
-fn is_k12(w: Word) -> bool
-    ensures { result ≡ true → w ≡ k12 }
+fn is_k12(i: Option<Instruction>) -> bool
+    ensures { IsTrue result ↔ (i ≡ k12) }
 {
-    if let Word::Known(k, f) = w {
-        if let Kind::VghshVv = k {
-            return (f.vm == 1) & (f.vd == 4) & (f.vs2 == 8) & (f.vs1 == 12);
-        }
-    }
-    false
+    let k12 = Instruction {
+        kind: Kind::VghshVv,
+        fields: Fields {
+            vm: 1,
+            vs2: 8,
+            vs1: 12,
+            vd: 4,
+        },
+    };
+    i == Some(k12)
 }
 
 fn word(rt: &impl Print) -> io::Result<()> {

@@ -1,6 +1,6 @@
 // The records of data/words.bin: each call is done on a register file that is filled with a pattern before it; afterwards all bytes are
 // compared.
-ghost use Rattle.std.specs.Prelude.{true, cond, ◌≡◌, ◌≤◌, ◌<◌, eqb, length};
+ghost use Rattle.std.specs.Prelude.{cond, ◌≡◌, ◌≢◌, ◌↔◌, ◌≤◌, ◌<◌, IsTrue, eqb, length};
 ghost use Rattle.known_words.specs.Call.{number_at, record_end, answers_as, after, expected, Agrees};
 
 use crate::call::{BEFORE, HEAD, length_at, number_at, settings_at};
@@ -11,22 +11,20 @@ use known_compare::tally::count;
 use known_report::data_file::read;
 use known_report::report::report;
 use octets_le::read_le;
-use octets_slice::{part_end, put, same};
+use octets_slice::{part_end, put};
+use refusal::number_of;
 use std::io;
 use std::rt::Files;
 use vector_execute::execute::execute;
 
-// The group of the records that ask for a register group.
+// The group of the records that ask for a register group; the data file numbers its groups.
 const GROUPS: u32 = 9;
 
 // The vstart that goes with a number.
 fn vstart_of(number: u32, vstart: u32) -> u32
     ensures { result ≡ cond (eqb number 0) 0 vstart }
 {
-    if number == 0 {
-        return 0;
-    }
-    vstart
+    if number == 0 { 0 } else { vstart }
 }
 
 // Executes a record's word; whether the number and vstart are the record's.
@@ -34,15 +32,16 @@ fn executes(s: &[u8], file: &mut [u8]) -> bool
     ensures { (result ≡ answers_as s.now (length file.old))
         × (file.new ≡ after s.now file.old) }
 {
-    let at = settings_at(s);
+    let mut at = settings_at(s);
     let number = number_at(s, 40);
-    let e = execute(number_at(s, 4), at, read_le(s, 28, 8), file);
-    (e.number == number) & (e.vstart == vstart_of(number, at.vstart))
+    let vstart = vstart_of(number, at.vstart);
+    let answer = execute(number_at(s, 4), &mut at, read_le(s, 28, 8), file);
+    (number_of(answer) == number) & (at.vstart == vstart)
 }
 
 // Does the call of a record.
 fn does(s: &[u8], changed: &[u8], file: &mut [u8]) -> bool
-    ensures { (number_at s.now 0 ≡ 9 → ⊥)
+    ensures { (number_at s.now 0 ≢ 9)
         → (result ≡ answers_as s.now (length file.old))
         × (file.new ≡ after s.now file.old) }
 {
@@ -63,9 +62,8 @@ fn expect(s: &[u8], changed: &[u8], file: &mut [u8])
 // The call of a record answers as it should, and leaves all of the file as it should.
 fn leaves(s: &[u8], changed: &[u8], file: &mut [u8], wanted: &mut [u8]) -> bool
     requires { length wanted.old ≡ length file.old }
-    ensures { (number_at s.now 0 ≡ 9 → ⊥)
-        → (result ≡ true → Agrees s.now changed.now (length file.old))
-        × (Agrees s.now changed.now (length file.old) → result ≡ true) }
+    ensures { (number_at s.now 0 ≢ 9)
+        → (IsTrue result ↔ Agrees s.now changed.now (length file.old)) }
 {
     let file_len = length_at(s, 36);
     if file.len() < file_len {
@@ -74,14 +72,13 @@ fn leaves(s: &[u8], changed: &[u8], file: &mut [u8], wanted: &mut [u8]) -> bool
     fill(BEFORE, file);
     expect(s, changed, wanted);
     let ok = does(s, changed, &mut file[..file_len]);
-    ok & same(file, wanted)
+    ok & (&*file == &*wanted)
 }
 
 // The same on a file of its own; of a register group nothing is said here.
 fn agrees(s: &[u8], changed: &[u8]) -> bool
-    ensures { (number_at s.now 0 ≡ 9 → ⊥)
-        → (result ≡ true → Agrees s.now changed.now 2049)
-        × (Agrees s.now changed.now 2049 → result ≡ true) }
+    ensures { (number_at s.now 0 ≢ 9)
+        → (IsTrue result ↔ Agrees s.now changed.now 2049) }
 {
     let mut file = [0u8; 2049];
     let mut wanted = [0u8; 2049];
@@ -111,6 +108,7 @@ fn record_end(s: &[u8], at: usize) -> usize
 fn records(group: u32, s: &[u8]) -> u64 {
     let mut n: u64 = 0;
     let mut at: usize = 0;
+    // A while: the step is the record's own length.
     while at < s.len() {
         let end = record_end(s, at);
         n = record(n, group, &s[at..end]);
@@ -146,6 +144,7 @@ fn all(rt: &impl Print, s: &[u8]) -> io::Result<()> {
 }
 
 pub fn run(rt: &(impl Files + Print + Eprint)) -> io::Result<()> {
+    // Fixed memory, as everywhere below: the file is read whole, and `n` bytes of it are there.
     let mut buffer = [0u8; 65536];
     let n = read(rt, b"words.bin", &mut buffer);
     all(rt, &buffer[..n])

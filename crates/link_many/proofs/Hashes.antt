@@ -1,11 +1,6 @@
 -- The hash of one block as A (`one_block`), with an empty C, by one product with the key's square: `hash-by-square`.
 -- Assumes nothing.
-use mathlib.Core.Path.{◌≡◌, ap, ap₂, ◌∙◌}
-use mathlib.Core.List.{List, [], ◌∷◌}
-use Prim.Native.Nat.{ℕ, ◌+◌, ◌/◌, ◌^◌, ◌<◌}
-use native.Mathlib.Omega.{arith}
-use lib.Bits.{bit_xor}
-use lib.ListN.{length}
+use Rattle.std.proofs.Common.{◌≡◌, ap, ap₂, ◌∙◌, List, [], ◌∷◌, ℕ, ◌+◌, ◌/◌, ◌^◌, ◌<◌, arith, bit_xor, length}
 use Rattle.gf128.specs.Bytes.{block_at}
 use Rattle.gf128.specs.Field.{product}
 use Rattle.gf128.specs.Hash.{next, over, blocks_from, blocks_of, length_block, ghash}

@@ -1,16 +1,10 @@
--- Records in a row of bytes: what `agrees` looks at (`agrees_at`), the answers place by place (`answers-are`), and the
+-- Records in a row of bytes: what `agrees` looks at (`agrees_by_square`), the answers place by place (`answers-are`), and the
 -- lengths of a call that is done (`lengths-done`). Assumes nothing.
-use mathlib.Core.Bool.{Bool, true, false, cond, not, ◌||◌}
-use mathlib.Core.Path.{◌≡◌, refl, sym, ap, ap₂, ◌∙◌}
-use mathlib.Core.List.{List, map}
-use Prim.Native.Nat.{ℕ, zero, suc, ◌+◌, ◌*◌, ◌/◌, ◌%◌, ◌^◌, ◌≤◌, ◌<◌}
-use native.Mathlib.Nat.{add-zero, zero-add, add_assoc, le_of_suc-le-suc, not-suc-le-zero, suc-ne-zero}
-use native.Mathlib.Omega.{arith}
-use borrow.Author.Tests.{eqb-true}
-use lib.Bits.{bit_xor}
-use lib.Dec.{eqb, lit≤}
-use lib.ListN.{length, get_or, take, drop, length-drop}
-use lib.Seq.{ext_get_or, get_or-take, get_or-drop, length-take-le, take-take}
+use Rattle.std.proofs.Common.{Bool, true, false, cond, not, ◌||◌, ◌≡◌, refl, sym, ap, ap₂, ◌∙◌, List, map, ℕ, zero, suc, ◌+◌, ◌*◌, ◌/◌, ◌%◌, ◌^◌, ◌≤◌, ◌<◌, add-zero, zero-add, add_assoc, le_of_suc-le-suc, not-suc-le-zero, suc-ne-zero, arith, eqb-true, bit_xor, eqb, lit≤, length, get_or, take, drop, length-drop, ext_get_or, get_or-take, get_or-drop, length-take-le, take-take, ◌&&◌}
+use Rattle.std.proofs.lemmas.Bool.Decides.{same_from_decides, Decides-like, Decides-and, Decides-eqb}
+use Rattle.ghash_block.specs.declared.block.Block.{Block}
+use Rattle.ghash_block.specs.Block.{value_of}
+use mir.Val.{bool_byte}
 use Rattle.octets.specs.BigEndian.{be_at}
 use Rattle.octets.proofs.BigEndian.{be-same}
 use Rattle.gf128.specs.Bytes.{block_at}
@@ -21,6 +15,14 @@ use Rattle.link_many.proofs.Hashes.{hash-by-square}
 
 -- ---- one record
 
+-- two blocks are the same number where both halves are the same
+pub same_blocks : (a b : Block) → a.1 < 2 ^ 64 → b.1 < 2 ^ 64 → (eqb a.0 b.0 && eqb a.1 b.1) ≡ eqb (value_of a) (value_of b)
+same_blocks a b la lb =
+    same_from_decides _ _
+    (Decides-like _ (λ (w : (a.0 ≡ b.0) × (a.1 ≡ b.1)). ap₂ (λ (x y : ℕ). x * 2 ^ 64 + y) w.0 w.1) (λ e. (omega arith, omega arith))
+    (Decides-and _ _ (Decides-eqb a.0 b.0) (Decides-eqb a.1 b.1)))
+    (Decides-eqb (value_of a) (value_of b))
+
 -- a number in a part of s is the one in s
 part : (n m : ℕ) (s : List ℕ) (at k : ℕ) → k + m ≤ n → be_at (take n (drop at s)) k m ≡ be_at s (at + k) m
 part n m s at k h =
@@ -30,24 +32,21 @@ part n m s at k h =
 pub length_part : (n at : ℕ) (s : List ℕ) → at + n ≤ length s → length (take n (drop at s)) ≡ n
 length_part n at s h = let l = length-drop at s in length-take-le n (drop at s) (omega arith)
 
-module _ (s : List ℕ) (at : ℕ) (inside : at + 32 ≤ length s) where
-  claim : claim_of (record_at s at) ≡ take 16 (drop at s)
-  claim = take-take 16 32 (drop at s) (lit≤ tt)
+pub length-claim : (s : List ℕ) (at : ℕ) → at + 32 ≤ length s → length (claim_of (record_at s at)) ≡ 16
+length-claim s at inside = ap length (take-take 16 32 (drop at s) (lit≤ tt)) ∙ length_part 16 at s (omega arith)
 
-  pub length-claim : length (claim_of (record_at s at)) ≡ 16
-  length-claim = ap length claim ∙ length_part 16 at s (omega arith)
+-- the test of a link by the key's square
+pub agrees_by_square : (h : ℕ) (r : List ℕ) → h < 2 ^ 128 → length r ≡ 32
+    → eqb (bit_xor (product (block_at r 0) (product h h)) (product (length_block 16 0) h)) (block_at r 16) ≡ agrees h r
+agrees_by_square h r hh lr =
+    sym (ap (λ (x : ℕ). eqb x (block_at r 16))
+    (hash-by-square h (claim_of r) hh (length-take-le 16 r (omega arith))
+    ∙ ap (λ (x : ℕ). bit_xor (product x (product h h)) (product (length_block 16 0) h)) (part 16 16 r 0 0 (lit≤ tt))))
 
-  claim-block : block_at (claim_of (record_at s at)) 0 ≡ block_at s at
-  claim-block = ap (λ (r : List ℕ). block_at r 0) claim ∙ part 16 16 s at 0 (lit≤ tt) ∙ ap (block_at s) (add-zero at)
-
-  -- the test of a record by the key's square
-  pub agrees_at : (h : ℕ) → h < 2 ^ 128
-      → eqb (bit_xor (product (block_at s at) (product h h)) (product (length_block 16 0) h)) (block_at s (at + 16)) ≡ agrees h (record_at s at)
-  agrees_at h hh =
-      sym (ap₂ eqb
-      (hash-by-square h (claim_of (record_at s at)) hh length-claim
-      ∙ ap (λ (x : ℕ). bit_xor (product x (product h h)) (product (length_block 16 0) h)) claim-block)
-      (part 32 16 s at 16 (lit≤ tt)))
+-- its byte
+pub byte-of_answer : (b : Bool) → bool_byte b ≡ cond b 1 0
+byte-of_answer true = refl
+byte-of_answer false = refl
 
 -- ---- all of them
 

@@ -1,10 +1,6 @@
 -- The examples hold (`examples`): one test of an example, computed over the table, and one law that turns the test into what the example
 -- says. Assumes nothing.
-use mathlib.Core.Bool.{Bool, cond, ◌&&◌}
-use mathlib.Core.List.{List, [], ◌∷◌, map}
-use mathlib.Core.Path.{◌≡◌, refl, sym, ap, ap₂, ◌∙◌}
-use Prim.Native.Nat.{ℕ}
-use lib.Dec.{T, eqb, eqb→eq}
+use Rattle.std.proofs.Common.{Bool, cond, ◌&&◌, List, [], ◌∷◌, map, ◌≡◌, refl, sym, ap, ap₂, ◌∙◌, ℕ, T, eqb, eqb→eq}
 use Rattle.octets.specs.BigEndian.{be_at, be_bytes}
 use Rattle.gf128.specs.Bytes.{block_at}
 use Rattle.gf128.specs.Hash.{blocks_from, blocks_of, length_block, message_of}

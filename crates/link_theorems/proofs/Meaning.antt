@@ -1,16 +1,6 @@
 -- The answers on links by one hash each (`one-hash-each`), and at most one 1 where the expected hash is the same (`at_most_one`); which
 -- records these speak of (`any-records`). Assumes nothing.
-use mathlib.Core.Bool.{Bool, true, false, cond}
-use mathlib.Core.List.{List, [], ◌∷◌, ◌++◌}
-use mathlib.Core.Logic.{◌≢◌}
-use mathlib.Core.Path.{◌≡◌, refl, sym, ap, ap₂, ◌∙◌, subst₂}
-use Prim.Native.Nat.{ℕ, zero, suc, ◌+◌, ◌*◌, ◌/◌, ◌%◌, ◌≤◌, ◌<◌}
-use native.Mathlib.Nat.{suc-ne-zero, zero-lt-suc, le_of_eq, not-suc-le-zero}
-use native.Mathlib.Omega.{arith}
-use borrow.Author.Tests.{eq-eqb, eqb-true}
-use lib.Dec.{lit≤}
-use lib.ListN.{length, get_or, take, drop, length-drop}
-use lib.Seq.{get_or-take, get_or-drop, take_all}
+use Rattle.std.proofs.Common.{Bool, true, false, cond, List, [], ◌∷◌, ◌++◌, ◌≢◌, ◌≡◌, refl, sym, ap, ap₂, ◌∙◌, subst₂, ℕ, zero, suc, ◌+◌, ◌*◌, ◌/◌, ◌%◌, ◌≤◌, ◌<◌, suc-ne-zero, zero-lt-suc, le_of_eq, not-suc-le-zero, arith, eq-eqb, eqb-true, lit≤, length, get_or, take, drop, length-drop, get_or-take, get_or-drop, take_all}
 use Rattle.octets.specs.Bytes.{AreBytes}
 use Rattle.octets.proofs.BigEndian.{bytes_inside, be_at-lt, be_bytes-read}
 use Rattle.gf128.specs.Bytes.{block_at, block_bytes}

@@ -2,16 +2,11 @@
 -- Main results: `be_at-split`, `be_bytes-split`, `sets-split`, `be_at-lt`, `be_at-past`, `be_at-byte`, `be_at-be_bytes`, `be_bytes-read`, `be_at-sets`,
 -- `bytes_bits`.
 -- Assumes nothing.
-use mathlib.Core.Path.{◌≡◌, refl, sym, ap, ap₂, ◌∙◌}
-use mathlib.Core.List.{List, [], ◌∷◌, ◌++◌, append_assoc, append-nil}
-use Prim.Native.Nat.{ℕ, zero, suc, ◌+◌, ◌*◌, ◌/◌, ◌%◌, ◌^◌, ◌≤◌, ◌<◌, suc-le-suc}
-use native.Mathlib.Nat.{zero-add, add-zero, add-suc, add_assoc, add-mul, mul-one, mul-suc, mul_assoc, pow-suc, pow-succ', div-one, div-div-eq-div-mul, mod-lt, zero-lt-suc, one-le-pow, le_trans, le-add_right, le_refl, le_of_lt, ne_of_lt, mod-one}
-use native.Mathlib.Numerals.{add-one}
-use native.Mathlib.Omega.{arith}
+use Rattle.std.proofs.Common.{◌≡◌, refl, sym, ap, ap₂, ◌∙◌, List, [], ◌∷◌, ◌++◌, append_assoc, append-nil, ℕ, zero, suc, ◌+◌, ◌*◌, ◌/◌, ◌%◌, ◌^◌, ◌≤◌, ◌<◌, suc-le-suc, zero-add, add-zero, add-suc, add_assoc, add-mul, mul-one, mul-suc, mul_assoc, pow-suc, div-one, mod-lt, zero-lt-suc, le_trans, le-add_right, le_refl, le_of_lt, ne_of_lt, add-one, arith, length, get_or, set, take, drop, length-append, length-drop, pow-add, get_or-set_same, get_or-set_other, get_or-drop, take-suc}
+use native.Mathlib.Nat.{pow-succ', div-div-eq-div-mul, one-le-pow, mod-one}
 use lib.Arith.{digits_lt, digits_div, digits_mod, mod-mul}
-use lib.ListN.{length, get_or, set, take, drop, length-append, length-drop, get_or-append, get_or-eq_default}
-use lib.Pow.{pow-add}
-use lib.Seq.{get_or-append_seam, sets, lt-length-sets, get_or-set_same, get_or-set_other, get_or-drop, take-suc}
+use lib.ListN.{get_or-append, get_or-eq_default}
+use lib.Seq.{get_or-append_seam, sets, lt-length-sets}
 use Rattle.octets.specs.BigEndian.{be_at, be_bytes}
 use Rattle.octets.specs.Bytes.{AreBytes}
 use Rattle.octets.proofs.Stores.{sets-append}

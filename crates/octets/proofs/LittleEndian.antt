@@ -3,16 +3,12 @@
 -- Main results: `read-lt`, `read_le-byte`, `le_same`, `read_le-same`, `write_le-other`, `write_le-read`, `write_le-bytes`, `write_le-sets`, `read-le_bytes`,
 -- `le_bytes-read`.
 -- Assumes nothing.
-use mathlib.Core.Path.{◌≡◌, refl, sym, ap, ap₂, subst, ◌∙◌}
-use mathlib.Core.List.{List, [], ◌∷◌, ◌++◌}
-use Prim.Native.Nat.{ℕ, zero, suc, ◌+◌, ◌-◌, ◌*◌, ◌/◌, ◌%◌, ◌^◌, ◌<◌, ◌≤◌}
+use Rattle.std.proofs.Common.{◌≡◌, refl, sym, ap, ap₂, subst, ◌∙◌, List, [], ◌∷◌, ◌++◌, ℕ, zero, suc, ◌+◌, ◌-◌, ◌*◌, ◌/◌, ◌%◌, ◌^◌, ◌<◌, ◌≤◌, zero-lt-suc, lt_of_lt_of_le, lt_of_not-le, le_of_eq, mod-lt, pow-suc, div-one, add-zero, zero-add, suc-add, add-one, arith, length, get_or, set, take, drop, length-set, get_or-set_same, get_or-set_other, get_or-append-add, drop-cons}
 use native.Mathlib.Decide.{dec_le, ℕ_discrete}
-use native.Mathlib.Nat.{zero-lt-suc, lt_of_lt_of_le, lt_of_not-le, le_of_eq, mod-lt, pow-suc, pow-succ', mod-one, div-one, div-div-eq-div-mul, add-zero, zero-add, suc-add}
-use native.Mathlib.Numerals.{add-one}
-use native.Mathlib.Omega.{arith}
+use native.Mathlib.Nat.{pow-succ', mod-one, div-div-eq-div-mul}
 use lib.Arith.{digits_lt, digits_div, digits_mod}
-use lib.ListN.{length, get_or, set, take, drop, length-set, get_or-eq_default}
-use lib.Seq.{sets, set_out, get_or-set_same, get_or-set_other, get_or-append-add, drop-cons}
+use lib.ListN.{get_or-eq_default}
+use lib.Seq.{sets, set_out}
 use Rattle.octets.specs.Bytes.{AreBytes}
 use Rattle.octets.specs.LittleEndian.{read_le, write_le, le_bytes}
 use Rattle.octets.proofs.BigEndian.{last_byte}

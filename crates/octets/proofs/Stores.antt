@@ -1,12 +1,7 @@
 -- What stands where after a run of stores, past the end of the list too. Main results: `sets-append`, `sets-other`, `sets-at`, `sets-past`,
--- `sets-cut`, `sets-next`, `sets-whole`, `parts_join`. Assumes nothing.
-use mathlib.Core.Path.{◌≡◌, refl, sym, ap, ap₂, ◌∙◌}
-use mathlib.Core.List.{List, [], ◌∷◌, ◌++◌, append-nil}
-use Prim.Native.Nat.{ℕ, zero, suc, ◌+◌, ◌-◌, ◌≤◌, ◌<◌, min}
-use native.Mathlib.Nat.{add-zero, add-suc, suc-add, le_of_suc-le-suc, not-suc-le-zero}
-use native.Mathlib.Omega.{arith}
-use lib.ListN.{length, length-set, set, take, drop, get_or, drop_of_length-le}
-use lib.Seq.{sets, sets-eq, set_out, get_or-set_same, get_or-set_other, take-add, drop-drop}
+-- `sets-cut`, `sets-whole`, `parts_join`. Assumes nothing.
+use Rattle.std.proofs.Common.{◌≡◌, refl, sym, ap, ap₂, ◌∙◌, List, [], ◌∷◌, ◌++◌, append-nil, ℕ, zero, suc, ◌+◌, ◌≤◌, ◌<◌, min, add-zero, add-suc, suc-add, le_of_suc-le-suc, not-suc-le-zero, arith, length, length-set, set, take, drop, get_or, drop_of_length-le, get_or-set_same, get_or-set_other, take-add, drop-drop}
+use lib.Seq.{sets, sets-eq, set_out}
 
 pub sets-append : (l : List ℕ) (i : ℕ) (xs ys : List ℕ) → sets (sets l i xs) (i + length xs) ys ≡ sets l i (xs ++ ys)
 sets-append l i [] ys = ap (λ (p : ℕ). sets l p ys) (add-zero i)
@@ -42,23 +37,6 @@ sets-cut l [] k zero h = refl
 sets-cut l [] k (suc j) h = refl
 sets-cut l (a ∷ vs) k zero h = sym (sets-past l (a ∷ vs) k (omega arith))
 sets-cut l (a ∷ vs) k (suc j) h = sets-cut (set l k a) vs (suc k) j (simp length-set (omega arith))
-
-sets_more : (l vs : List ℕ) (k j : ℕ) → j < length vs
-    → set (sets l k (take j vs)) (k + j) (get_or vs j 0) ≡ sets l k (take (suc j) vs)
-sets_more l [] k j h = absurd (omega arith)
-sets_more l (a ∷ vs) k zero h = let e : k + 0 ≡ k = omega arith in rw e
-sets_more l (a ∷ vs) k (suc j) h = let e : k + suc j ≡ suc k + j = omega arith in rw e (sets_more (set l k a) vs (suc k) j (omega arith))
-
--- one more, at the place i
-pub sets-next : (l vs s : List ℕ) (k i : ℕ) → k ≤ i → i - k < length vs → s ≡ sets l k (take (i - k) vs)
-    → set s i (get_or vs (i - k) 0) ≡ sets l k (take (i + 1 - k) vs)
-sets-next l vs s k i h j e =
-    let place : i ≡ k + (i - k) = omega arith in
-    let count : suc (i - k) ≡ i + 1 - k = omega arith in
-    ap (λ (m : List ℕ). set m i (get_or vs (i - k) 0)) e
-    ∙ ap (λ (n : ℕ). set (sets l k (take (i - k) vs)) n (get_or vs (i - k) 0)) place
-    ∙ sets_more l vs k (i - k) j
-    ∙ ap (λ (n : ℕ). sets l k (take n vs)) count
 
 -- as many as there are places
 pub sets-whole : (l vs : List ℕ) → length l ≡ length vs → sets l 0 vs ≡ vs

@@ -15,9 +15,7 @@ pub fn read_le(s: &[u8], at: usize, n: usize) -> u64
         return 0;
     }
     let mut v: u64 = 0;
-    let mut i = n;
-    while 0 < i {
-        i -= 1;
+    for i in (0..n).rev() {
         v = v * 256 + byte_or_zero(s, at + i);
     }
     v
@@ -41,10 +39,8 @@ pub fn write_le(s: &mut [u8], at: usize, n: usize, v: u64)
         return;
     }
     let mut left = v;
-    let mut i: usize = 0;
-    while i < n {
+    for i in 0..n {
         put_byte(s, at + i, (left % 256) as u8);
-        left = left / 256;
-        i += 1;
+        left /= 256;
     }
 }

@@ -9,7 +9,7 @@ pub fn part_end(at: usize, n: usize, len: usize) -> usize
     requires { at ≤ len }
     ensures { (result ≡ min (at + n) len) × (at ≤ result) × (result ≤ len) }
 {
-    if n < len - at { at + n } else { len }
+    at + n.min(len - at)
 }
 
 // Puts bytes from `at` on. Those that come to lie past the end are left out.
@@ -20,10 +20,9 @@ pub fn put(s: &mut [u8], at: usize, part: &[u8])
         return;
     }
     let end = part_end(at, part.len(), s.len());
-    let mut i = at;
-    while i < end {
+    // A byte at a time: `copy_from_slice` of a length that is not known calls memmove, which the archives do not need (docs/INTEGRATION.md).
+    for i in at..end {
         s[i] = part[i - at];
-        i += 1;
     }
 }
 
@@ -31,15 +30,5 @@ pub fn put(s: &mut [u8], at: usize, part: &[u8])
 pub fn same(a: &[u8], b: &[u8]) -> bool
     ensures { (result ≡ true → a.now ≡ b.now) × (a.now ≡ b.now → result ≡ true) }
 {
-    if a.len() != b.len() {
-        return false;
-    }
-    let mut i: usize = 0;
-    while i < a.len() {
-        if a[i] != b[i] {
-            return false;
-        }
-        i += 1;
-    }
-    true
+    a == b
 }

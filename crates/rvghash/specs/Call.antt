@@ -3,10 +3,9 @@
 use Rattle.std.specs.Prelude.{ℕ, Bool, List, length}
 use Rattle.trace_record.specs.declared.Record.{Record}
 use Rattle.trace_policy.specs.Policy.{policy_of}
-use Rattle.vector_listing.specs.declared.Listed.{Listed}
-use Rattle.vector_listing.specs.Listing.{listed}
+use Rattle.vector_listing.specs.Listing.{Listed, listed}
 use Rattle.vector_registers.specs.declared.settings.Settings.{Settings}
-use Rattle.vector_word.specs.declared.Encoded.{Encoded}
+use Rattle.vector_word.specs.Writer.{Encoded}
 use Rattle.vector_word.specs.declared.Fields.{Fields}
 use Rattle.vector_word.specs.Word.{decode}
 

@@ -1,14 +1,15 @@
-// The running hash that the caller lends, updated where it lies. Each function hands it by value to one that does the work.
+// The running hash that the caller lends, updated where it lies. A function for each path: the names are the C interface's.
 ghost use Rattle.std.specs.Prelude.{◌≡◌, length};
 ghost use Rattle.ghash_state.specs.State.{view, Fresh};
 ghost use Rattle.ghash_running.specs.Answers.{FeedsA, FeedsC};
 ghost use Rattle.ghash_lent.specs.Finish.{FinishesInto};
 ghost use Rattle.ghash_parked.specs.Park.{park_number, parked_into, Reads, unparked};
 
-use ghash_lent::finish::{finished_into_fast, finished_into_plain};
-use ghash_parked::park::{parked, unparked};
-use ghash_paths::{fed_a_fast, fed_a_plain, fed_c_fast, fed_c_plain};
+use ghash_lent::running::{feed_a, feed_c, finish_into};
+use ghash_parked::park::{park, unpark};
 use ghash_state::Running;
+use ghash_step::Path;
+use refusal::number_of;
 
 // Makes the lent running hash a fresh one.
 #[unsafe(no_mangle)]
@@ -23,9 +24,7 @@ pub extern "C" fn rvghash_running_new(state: &mut Running)
 pub extern "C" fn rvghash_feed_a(state: &mut Running, key: &[u8], piece: &[u8]) -> u32
     ensures { FeedsA key.now state.old piece.now result state.new }
 {
-    let f = fed_a_fast(*state, key, piece);
-    *state = f.state;
-    f.number
+    feed_a(Path::Fast, state, key, piece)
 }
 
 // The same on the plain path.
@@ -33,9 +32,7 @@ pub extern "C" fn rvghash_feed_a(state: &mut Running, key: &[u8], piece: &[u8]) 
 pub extern "C" fn rvghash_feed_a_plain(state: &mut Running, key: &[u8], piece: &[u8]) -> u32
     ensures { FeedsA key.now state.old piece.now result state.new }
 {
-    let f = fed_a_plain(*state, key, piece);
-    *state = f.state;
-    f.number
+    feed_a(Path::Plain, state, key, piece)
 }
 
 // Takes a piece of C.
@@ -43,9 +40,7 @@ pub extern "C" fn rvghash_feed_a_plain(state: &mut Running, key: &[u8], piece: &
 pub extern "C" fn rvghash_feed_c(state: &mut Running, key: &[u8], piece: &[u8]) -> u32
     ensures { FeedsC key.now state.old piece.now result state.new }
 {
-    let f = fed_c_fast(*state, key, piece);
-    *state = f.state;
-    f.number
+    feed_c(Path::Fast, state, key, piece)
 }
 
 // The same on the plain path.
@@ -53,9 +48,7 @@ pub extern "C" fn rvghash_feed_c(state: &mut Running, key: &[u8], piece: &[u8]) 
 pub extern "C" fn rvghash_feed_c_plain(state: &mut Running, key: &[u8], piece: &[u8]) -> u32
     ensures { FeedsC key.now state.old piece.now result state.new }
 {
-    let f = fed_c_plain(*state, key, piece);
-    *state = f.state;
-    f.number
+    feed_c(Path::Plain, state, key, piece)
 }
 
 // Finishes the lent running hash, and writes the hash to `out`.
@@ -63,9 +56,7 @@ pub extern "C" fn rvghash_feed_c_plain(state: &mut Running, key: &[u8], piece: &
 pub extern "C" fn rvghash_finish(state: &mut Running, key: &[u8], out: &mut [u8]) -> u32
     ensures { FinishesInto key.now state.old out.old result state.new out.new }
 {
-    let f = finished_into_fast(*state, key, out);
-    *state = f.state;
-    f.number
+    finish_into(Path::Fast, state, key, out)
 }
 
 // The same on the plain path.
@@ -73,9 +64,7 @@ pub extern "C" fn rvghash_finish(state: &mut Running, key: &[u8], out: &mut [u8]
 pub extern "C" fn rvghash_finish_plain(state: &mut Running, key: &[u8], out: &mut [u8]) -> u32
     ensures { FinishesInto key.now state.old out.old result state.new out.new }
 {
-    let f = finished_into_plain(*state, key, out);
-    *state = f.state;
-    f.number
+    finish_into(Path::Plain, state, key, out)
 }
 
 // Parks the lent running hash, which is only read, into a record.
@@ -84,7 +73,7 @@ pub extern "C" fn rvghash_park(running: &Running, record: &mut [u8]) -> u32
     ensures { (result ≡ park_number (view running.now) (length «record».old))
         × («record».new ≡ parked_into (view running.now) «record».old) }
 {
-    parked(*running, record)
+    number_of(park(*running, record))
 }
 
 // Reads a record back into the lent running hash; where the record is refused, it becomes a fresh one.
@@ -92,7 +81,5 @@ pub extern "C" fn rvghash_park(running: &Running, record: &mut [u8]) -> u32
 pub extern "C" fn rvghash_unpark(running: &mut Running, record: &[u8]) -> u32
     ensures { Reads (unparked «record».now) result running.new }
 {
-    let u = unparked(record);
-    *running = u.state;
-    u.number
+    number_of(unpark(record, running))
 }

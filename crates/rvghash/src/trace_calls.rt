@@ -4,6 +4,7 @@ ghost use Rattle.trace_record.specs.Record.{write_number, written_into};
 ghost use Rattle.trace_replay.specs.Replay.{replayed, number_of, index_of};
 ghost use Rattle.rvghash.specs.Call.{record_with};
 
+use refusal::number_of;
 use trace_policy::policy_of;
 use trace_record::{Record, write_record};
 use trace_replay::{answer_of, replay};
@@ -34,7 +35,7 @@ pub extern "C" fn rvghash_put_record(
         vstart,
         scalar,
     };
-    write_record(r, record)
+    number_of(write_record(r, record))
 }
 
 #[unsafe(no_mangle)]
@@ -43,7 +44,7 @@ pub extern "C" fn rvghash_replay(vlen: u32, file: &mut [u8], trace: &[u8], index
         × (index.new ≡ index_of (replayed vlen file.old trace.now).answer)
         × (file.new ≡ (replayed vlen file.old trace.now).file) }
 {
-    let answer = answer_of(replay(vlen, file, trace));
-    *index = answer.index;
-    answer.number
+    let (number, place) = answer_of(replay(vlen, file, trace));
+    *index = place;
+    number
 }

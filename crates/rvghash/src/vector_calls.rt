@@ -5,8 +5,9 @@ ghost use Rattle.vector_refusal.specs.Refusal.{refusal_of};
 ghost use Rattle.vector_execute.specs.Execute.{executed, vstart_after};
 ghost use Rattle.rvghash.specs.Call.{settings_of};
 
+use refusal::number_of;
 use vector_execute::execute::execute;
-use vector_group::{group_refusal, part_of};
+use vector_group::GroupAt;
 use vector_registers::settings::Settings;
 
 #[unsafe(no_mangle)]
@@ -45,7 +46,7 @@ pub extern "C" fn rvghash_execute_policies(
         × (vstart.new ≡ vstart_after (length file.old) word (settings_of vlen sew lmul tail_agnostic mask_agnostic vl vstart.old))
         × (file.new ≡ executed word (settings_of vlen sew lmul tail_agnostic mask_agnostic vl vstart.old) scalar file.old) }
 {
-    let s = Settings {
+    let mut s = Settings {
         vlen,
         sew,
         lmul,
@@ -54,16 +55,21 @@ pub extern "C" fn rvghash_execute_policies(
         vl,
         vstart: *vstart,
     };
-    let done = execute(word, s, scalar, file);
-    *vstart = done.vstart;
-    done.number
+    let answer = execute(word, &mut s, scalar, file);
+    *vstart = s.vstart;
+    number_of(answer)
 }
 
 #[unsafe(no_mangle)]
 pub extern "C" fn rvghash_group_refusal(vlen: u32, file_len: usize, lmul: u32, reg: u32) -> u32
     ensures { result ≡ group_refusal vlen file_len lmul reg }
 {
-    group_refusal(vlen, file_len, lmul, reg)
+    let asked = GroupAt {
+        vlen,
+        lmul,
+        register: reg,
+    };
+    number_of(asked.refusal(file_len))
 }
 
 // Where the group lies in the file: its first byte and its length.
@@ -80,8 +86,21 @@ pub extern "C" fn rvghash_group(
         × (start.new ≡ part_start vlen file_len lmul reg)
         × (length.new ≡ part_length vlen file_len lmul reg) }
 {
-    let part = part_of(vlen, file_len, lmul, reg);
-    *start = part.start;
-    *length = part.length;
-    part.number
+    let asked = GroupAt {
+        vlen,
+        lmul,
+        register: reg,
+    };
+    match asked.part(file_len) {
+        Ok(part) => {
+            *start = part.start;
+            *length = part.end - part.start;
+            0
+        }
+        Err(refusal) => {
+            *start = 0;
+            *length = 0;
+            refusal.number()
+        }
+    }
 }

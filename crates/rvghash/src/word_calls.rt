@@ -6,10 +6,19 @@ ghost use Rattle.vector_listing.specs.Listing.{listed_into};
 ghost use Rattle.vector_reader.specs.Reading.{Reads};
 ghost use Rattle.rvghash.specs.Call.{fields_with, listing, answer};
 
+use refusal::number_of;
 use vector_listing::list;
 use vector_numbers::{decode_numbered, encode_numbered};
 use vector_reader::read;
 use vector_word::Fields;
+
+// What stands beside the number of a word that is not decoded.
+const NO_FIELDS: Fields = Fields {
+    vm: 0,
+    vs2: 0,
+    vs1: 0,
+    vd: 0,
+};
 
 #[unsafe(no_mangle)]
 pub extern "C" fn rvghash_encode(
@@ -23,9 +32,9 @@ pub extern "C" fn rvghash_encode(
     ensures { (result ≡ (encoded_numbered kind (fields_with vm vs2 vs1 vd)).number)
         × (word.new ≡ (encoded_numbered kind (fields_with vm vs2 vs1 vd)).word) }
 {
-    let e = encode_numbered(kind, Fields { vm, vs2, vs1, vd });
-    *word = e.word;
-    e.number
+    let answer = encode_numbered(kind, Fields { vm, vs2, vs1, vd });
+    *word = answer.unwrap_or(0);
+    number_of(answer)
 }
 
 #[unsafe(no_mangle)]
@@ -44,14 +53,14 @@ pub extern "C" fn rvghash_decode(
         × (vs1.new ≡ (decoded_numbered word).fields.vs1)
         × (vd.new ≡ (decoded_numbered word).fields.vd) }
 {
-    let d = decode_numbered(word);
-    let f = d.fields;
-    *kind = d.kind;
+    let answer = decode_numbered(word);
+    let (k, f) = answer.unwrap_or((0, NO_FIELDS));
+    *kind = k;
     *vm = f.vm;
     *vs2 = f.vs2;
     *vs1 = f.vs1;
     *vd = f.vd;
-    d.number
+    number_of(answer)
 }
 
 // The word's text, and its length.
@@ -61,9 +70,9 @@ pub extern "C" fn rvghash_disassemble(word: u32, text: &mut [u8], length: &mut u
         × (length.new ≡ (listing text.old word).length)
         × (text.new ≡ listed_into text.old (decode word)) }
 {
-    let l = list(word, text);
-    *length = l.length;
-    l.number
+    let answer = list(word, text);
+    *length = answer.unwrap_or(0);
+    number_of(answer)
 }
 
 // The word whose text this is.
@@ -72,6 +81,6 @@ pub extern "C" fn rvghash_assemble(text: &[u8], word: &mut u32) -> u32
     ensures { Reads text.now (answer result word.new) }
 {
     let taken = read(text);
-    *word = taken.word;
-    taken.number
+    *word = taken.unwrap_or(0);
+    number_of(taken)
 }

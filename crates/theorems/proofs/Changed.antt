@@ -1,11 +1,6 @@
 -- One changed block shows in the hash of a whole message (`one-changed-block-shows`), of one fed in parts
 -- (`one-changed-block-shows-in-parts`), and in the bytes written (`one-changed-block-shows-in-bytes`). Assumes nothing.
-use mathlib.Core.Path.{◌≡◌, refl, sym, ap, ap₂, ◌∙◌, subst, subst₂}
-use mathlib.Core.List.{List}
-use Prim.Native.Nat.{ℕ, ◌^◌, ◌≤◌, ◌<◌}
-use native.Mathlib.Nat.{mod-eq_of_lt}
-use borrow.Author.Tests.{eq-eqb, le-ltb}
-use lib.ListN.{length}
+use Rattle.std.proofs.Common.{◌≡◌, refl, sym, ap, ap₂, ◌∙◌, subst, subst₂, List, ℕ, ◌^◌, ◌≤◌, ◌<◌, mod-eq_of_lt, eq-eqb, le-ltb, length}
 use Rattle.octets.specs.BigEndian.{be_at}
 use Rattle.octets.specs.Bytes.{AreBytes}
 use Rattle.octets.proofs.BigEndian.{be_at-lt, be_at-be_bytes}

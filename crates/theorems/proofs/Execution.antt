@@ -3,25 +3,17 @@
 -- of vd, vs1 and vs2 beyond the refusals: vd equal to vs1 or vs2 is no exception. Where vstart is at or past vl, the file stays whatever
 -- the policies (`file-stays`); if no refusal applies, the answer is 0 then, and vstart becomes 0 (`nothing-done`).
 -- Assumes nothing.
-use mathlib.Core.Bool.{Bool, true, false, cond, ◌&&◌, ◌||◌}
-use mathlib.Core.List.{List}
-use mathlib.Core.Path.{◌≡◌, refl, sym, ap, subst, ◌∙◌}
-use Prim.Native.Nat.{ℕ, ◌-◌, ◌/◌, ◌<◌, ◌≤◌}
-use native.Mathlib.Nat.{pos_of_ne-zero, le_of_suc-le-suc}
-use native.Mathlib.Omega.{arith}
-use borrow.Author.Tests.{eqb-false, eq-eqb, le-leb}
-use lib.Dec.{eqb, leb}
-use lib.ListN.{length}
+use Rattle.std.proofs.Common.{Option, Some, None, Bool, true, false, cond, ◌&&◌, ◌||◌, List, ◌≡◌, refl, sym, ap, subst, ◌∙◌, ℕ, ◌-◌, ◌/◌, ◌<◌, ◌≤◌, pos_of_ne-zero, le_of_suc-le-suc, arith, eq-eqb, le-leb, eqb, leb, length}
+use borrow.Author.Tests.{eqb-false}
 use Rattle.octets.specs.Bytes.{AreBytes}
 use Rattle.vector_registers.specs.declared.settings.Settings.{Settings}
 use Rattle.vector_word.specs.declared.Fields.{Fields}
 use Rattle.vector_kind.specs.declared.Kind.{Kind}
 use Rattle.vector_kind.specs.declared.Kind.TheVariants.{VclmulVv, VclmulVx, VclmulhVv, VclmulhVx, VghshVv, VghshVs, VgmulVv, VgmulVs}
-use Rattle.vector_word.specs.declared.Word.{Word}
-use Rattle.vector_word.specs.declared.Word.TheVariants.{Known, Unknown}
+use Rattle.vector_word.specs.declared.Instruction.{Instruction}
 use Rattle.vector_registers.specs.Settings.{applies1, applies3}
 use Rattle.vector_refusal.specs.Refusal.{applies4, applies5, applies6, applies7, applies8, refusal_of_known, refusal_of_word, refusal_of}
-use Rattle.vector_word.specs.Word.{decode}
+use Rattle.vector_word.specs.Word.{decode, instruction}
 use Rattle.vector_word.proofs.Tests.{or-false, pick-here, pick_next}
 use Rattle.vector_product.specs.declared.clmul.Half.{Half}
 use Rattle.vector_product.specs.declared.clmul.Half.TheVariants.{Low, High}
@@ -74,12 +66,12 @@ module _ (f : Fields) (s : Settings) (scalar : ℕ) (file : List ℕ) (bytes : A
 
 -- the active units of a word that is not refused
 pub units-done : (word : ℕ) (s : Settings) (scalar : ℕ) (file : List ℕ) → AreBytes file → refusal_of (length file) word s ≡ 0
-    → (k : Kind) (f : Fields) → decode word ≡ Known k f → WordDone k f s scalar file (done_known k f s scalar file)
+    → (k : Kind) (f : Fields) → decode word ≡ Some (instruction k f) → WordDone k f s scalar file (done_known k f s scalar file)
 units-done word s scalar file bytes number k f known =
     by_kind f s scalar file bytes (decoded-fit word known) k (admitted-as (length file) word s known number)
 
 -- a word of the eight to which no refusal applies is not refused
-none-applies : (file_length word : ℕ) (s : Settings) {k : Kind} {f : Fields} → decode word ≡ Known k f → Admitted file_length k f s
+none-applies : (file_length word : ℕ) (s : Settings) {k : Kind} {f : Fields} → decode word ≡ Some (instruction k f) → Admitted file_length k f s
     → refusal_of file_length word s ≡ 0
 unfolding refusal_of refusal_of_known
 none-applies file_length word s {k} {f} known a =
@@ -90,7 +82,7 @@ none-applies file_length word s {k} {f} known a =
     (pick_next (applies6 k f s) 6 _ a.not6
     (pick_next (applies7 k f s) 7 _ a.not7
     (pick_next (applies8 k f) 8 0 a.not8 refl)))))
-    ∙ ap (λ (w : Word). refusal_of_word w s) (sym known)))
+    ∙ ap (λ (w : Option Instruction). refusal_of_word w s) (sym known)))
 
 module _ (s : Settings) (scalar : ℕ) (file : List ℕ) (past : s.vl ≤ s.vstart) where
   no-elements : (S : ℕ → List ℕ → List ℕ) → steps S (s.vl - s.vstart) s.vstart file ≡ file
@@ -110,10 +102,10 @@ module _ (s : Settings) (scalar : ℕ) (file : List ℕ) (past : s.vl ≤ s.vsta
   idle VgmulVv f = no-groups (vv_step YAlone f s)
   idle VgmulVs f = no-groups (vs_step (group s file f.vs2 0) YAlone f s)
 
-  idle-word : (w : Word) → done w s scalar file ≡ file
+  idle-word : (w : Option Instruction) → done w s scalar file ≡ file
   unfolding filled
-  idle-word Unknown = refl
-  idle-word (Known k f) = sym (pick-here (leb s.vl s.vstart) (done_known k f s scalar file) _ (le-leb s.vl s.vstart past)) ∙ idle k f
+  idle-word None = refl
+  idle-word (Some i) = sym (pick-here (leb s.vl s.vstart) (done_known i.kind i.fields s scalar file) _ (le-leb s.vl s.vstart past)) ∙ idle i.kind i.fields
 
   -- where vstart is at or past vl, the file stays
   pub file-stays : (word : ℕ) → executed word s scalar file ≡ file
@@ -125,7 +117,7 @@ module _ (s : Settings) (scalar : ℕ) (file : List ℕ) (past : s.vl ≤ s.vsta
       go false = refl
 
   -- if no refusal applies, moreover, the answer is 0, and vstart becomes 0
-  pub nothing-done : (word : ℕ) {k : Kind} {f : Fields} → decode word ≡ Known k f → Admitted (length file) k f s
+  pub nothing-done : (word : ℕ) {k : Kind} {f : Fields} → decode word ≡ Some (instruction k f) → Admitted (length file) k f s
       → (refusal_of (length file) word s ≡ 0) × (vstart_after (length file) word s ≡ 0) × (executed word s scalar file ≡ file)
   nothing-done word known a =
       let zero = none-applies (length file) word s known a in

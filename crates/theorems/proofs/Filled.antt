@@ -1,14 +1,7 @@
 -- What the fill makes of a file: ones bits in the bytes that the policies name, and every other byte as it was (`ones_fill`, `mask-fill`,
 -- `tail-fill`). What ones bits in vd's group keep it keeps (`filled_keeps`): bytes outside the group, and that all are bytes.
 -- Assumes nothing.
-use mathlib.Core.Bool.{Bool, true, false, true≢false, cond, not}
-use mathlib.Core.List.{List}
-use mathlib.Core.Path.{◌≡◌, refl, sym, ap, subst, ◌∙◌}
-use Prim.Native.Nat.{ℕ, ◌+◌, ◌-◌, ◌*◌, ◌/◌, ◌<◌, ◌≤◌}
-use native.Mathlib.Omega.{arith}
-use lib.Dec.{leb}
-use lib.ListN.{length, get_or, length-set}
-use lib.Seq.{get_or-set_same, get_or-set_other}
+use Rattle.std.proofs.Common.{Bool, true, false, true≢false, cond, not, List, ◌≡◌, refl, sym, ap, subst, ◌∙◌, ℕ, ◌+◌, ◌-◌, ◌*◌, ◌/◌, ◌<◌, ◌≤◌, arith, leb, length, get_or, length-set, get_or-set_same, get_or-set_other}
 use Rattle.octets.specs.Bytes.{AreBytes}
 use Rattle.octets.proofs.LittleEndian.{set-bytes}
 use Rattle.vector_registers.specs.declared.settings.Settings.{Settings}

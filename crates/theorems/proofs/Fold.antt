@@ -1,14 +1,7 @@
 -- A fold over units of a register group, one after the other. If each step writes its own unit only, and what it writes is told by
 -- the file at entry while only earlier units have been written, then so it is of the whole fold (`fold_done`).
 -- Assumes nothing.
-use mathlib.Core.Bool.{Bool, true, false}
-use mathlib.Core.List.{List}
-use mathlib.Core.Logic.{⊎_elim}
-use mathlib.Core.Path.{◌≡◌, refl, ap, subst, ◌∙◌}
-use Prim.Native.Nat.{ℕ, zero, suc, ◌+◌, ◌-◌, ◌<◌, ◌≤◌}
-use native.Mathlib.Nat.{eq-or-lt_of_le, le_refl, le_trans, le-add_right}
-use native.Mathlib.Omega.{arith}
-use lib.ListN.{length, get_or}
+use Rattle.std.proofs.Common.{Bool, true, false, List, ⊎_elim, ◌≡◌, refl, ap, subst, ◌∙◌, ℕ, zero, suc, ◌+◌, ◌-◌, ◌<◌, ◌≤◌, eq-or-lt_of_le, le_refl, le_trans, le-add_right, arith, length, get_or}
 use Rattle.vector_element.specs.Steps.{steps}
 use Rattle.theorems.specs.Execution.{Within, Done}
 

@@ -1,13 +1,8 @@
 -- A GHASH word's fold: each group in range gets the product computed from the file at entry, and every other byte stays. vd may be vs1
 -- or vs2: group i is read before it is written, and no later one reads it. The key of a .vs word is read once, before any write.
 -- Assumes nothing.
-use mathlib.Core.Bool.{true}
-use mathlib.Core.List.{List}
-use mathlib.Core.Path.{◌≡◌, sym, ap₂, subst}
-use Prim.Native.Nat.{ℕ, ◌+◌, ◌*◌, ◌/◌, ◌^◌, ◌<◌, ◌≤◌}
-use native.Mathlib.Omega.{arith}
+use Rattle.std.proofs.Common.{true, List, ◌≡◌, sym, ap₂, subst, ℕ, ◌+◌, ◌*◌, ◌/◌, ◌^◌, ◌<◌, ◌≤◌, arith, length}
 use lib.Bits.{bit_xor}
-use lib.ListN.{length}
 use Rattle.octets.specs.Bytes.{AreBytes}
 use Rattle.gf128.specs.Bytes.{block_at, put_block}
 use Rattle.gf128.specs.Field.{product}

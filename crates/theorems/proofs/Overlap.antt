@@ -1,16 +1,8 @@
 -- Refusal 7 is the overlap of vd's group with the key (`seven-is-overlap`), so no write of a .vs word that is done touches the key
 -- (`writes-miss-key`, `key-stays`).
 -- Assumes nothing.
-use mathlib.Core.Bool.{Bool, true, false, true≢false, cond, not, ◌&&◌}
-use mathlib.Core.List.{List}
-use mathlib.Core.Path.{◌≡◌, refl, sym, ap, subst, ◌∙◌}
-use Prim.Native.Nat.{ℕ, ◌+◌, ◌-◌, ◌*◌, ◌/◌, ◌<◌, ◌≤◌}
+use Rattle.std.proofs.Common.{Option, Some, Bool, true, false, true≢false, cond, not, ◌&&◌, List, ◌≡◌, refl, sym, ap, subst, ◌∙◌, ℕ, ◌+◌, ◌-◌, ◌*◌, ◌/◌, ◌<◌, ◌≤◌, mul-le-mul_right, suc-mul, add-mul, lt_of_not-le, arith, le-leb, lt-ltb, leb-true, ltb-true, eqb, leb, ltb, length}
 use native.Mathlib.Decide.{dec_le}
-use native.Mathlib.Nat.{mul-le-mul_right, suc-mul, add-mul, lt_of_not-le}
-use native.Mathlib.Omega.{arith}
-use borrow.Author.Tests.{le-leb, lt-ltb, leb-true, ltb-true}
-use lib.Dec.{eqb, leb, ltb}
-use lib.ListN.{length}
 use Rattle.octets.proofs.BigEndian.{be_at-same}
 use Rattle.octets.proofs.Tests.{both}
 use Rattle.gf128.proofs.Bytes.{put_block-other}
@@ -20,9 +12,8 @@ use Rattle.vector_word.specs.declared.Fields.{Fields}
 use Rattle.vector_kind.specs.declared.Kind.{Kind}
 use Rattle.vector_kind.specs.declared.Kind.TheVariants.{VclmulVv, VclmulVx, VclmulhVv, VclmulhVx, VghshVv, VghshVs, VgmulVv, VgmulVs}
 use Rattle.vector_kind.specs.Kinds.{is_ghash, is_vs}
-use Rattle.vector_word.specs.declared.Word.{Word}
-use Rattle.vector_word.specs.declared.Word.TheVariants.{Known}
-use Rattle.vector_word.specs.Word.{decode}
+use Rattle.vector_word.specs.declared.Instruction.{Instruction}
+use Rattle.vector_word.specs.Word.{decode, instruction}
 use Rattle.vector_word.proofs.Tests.{past, held, passed-by}
 use Rattle.vector_refusal.specs.Refusal.{applies7, applies8, refusal_of_word, refusal_of}
 use Rattle.vector_element.specs.Element.{block_place}
@@ -78,7 +69,7 @@ module _ (f : Fields) (s : Settings) (large : 16 ≤ register_bytes s.vlen) wher
 -- ---- the number
 
 module _
-    (file_length word : ℕ) (s : Settings) (k : Kind) (f : Fields) (known : decode word ≡ Known k f)
+    (file_length word : ℕ) (s : Settings) (k : Kind) (f : Fields) (known : decode word ≡ Some (instruction k f))
     (none : (0 < refusal_of file_length word s) × (refusal_of file_length word s < 7) → ⊥)
   where
     abbrev Is : ℕ → Type 0
@@ -94,7 +85,7 @@ module _
     unfolding refusal_of
     left =
         let p1 = passed-by Is (applies1 file_length s.vlen) 1 (refusal_of_word (decode word) s) (no_number 1 (omega arith) (omega arith)) refl in
-        let p = past-six Is k f s no_number (subst (λ (w : Word). Is (refusal_of_word w s)) known p1.1) in
+        let p = past-six Is k f s no_number (subst (λ (w : Option Instruction). Is (refusal_of_word w s)) known p1.1) in
         (ready file_length s p1.0 p.0, p.4)
 
     applied : Is 7 → applies7 k f s ≡ true
@@ -178,7 +169,7 @@ key-stays word s scalar file number k f known vs =
     record {
       between = λ m n h. steps-keep-key a vs m file n (omega (arith, h));
       after =
-          ap (key_in f s) (sym (performed word s scalar file number).1 ∙ ap (λ (w : Word). done w s scalar file) known)
+          ap (key_in f s) (sym (performed word s scalar file number).1 ∙ ap (λ (w : Option Instruction). done w s scalar file) known)
           ∙ be_at-same (filled f s g) g (block_place s.vlen f.vs2 0) 16
           (λ p key. filled-outside f s (settings a) g p (λ w. outside a vs p w key))
           ∙ word_keeps k f s scalar file vs a;

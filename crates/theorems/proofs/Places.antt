@@ -1,13 +1,8 @@
 -- What it tells of a word that it is not refused: its register groups are aligned, and every place that it reads or writes lies inside
 -- the file (`places-in-file`).
 -- Assumes nothing.
-use mathlib.Core.Bool.{Bool, true, false, cond, not, ◌&&◌}
-use mathlib.Core.Path.{◌≡◌, subst}
-use Prim.Native.Nat.{ℕ, ◌+◌, ◌/◌, ◌<◌, ◌≤◌}
-use native.Mathlib.Nat.{zero-mul, le_of_suc-le-suc}
-use native.Mathlib.Omega.{arith}
-use borrow.Author.Tests.{eqb-true, not-false}
-use lib.Dec.{eqb}
+use Rattle.std.proofs.Common.{Bool, true, false, cond, not, ◌&&◌, ◌≡◌, subst, ℕ, ◌+◌, ◌/◌, ◌<◌, ◌≤◌, zero-mul, le_of_suc-le-suc, arith, eqb-true, eqb}
+use borrow.Author.Tests.{not-false}
 use Rattle.vector_registers.specs.declared.settings.Settings.{Settings}
 use Rattle.vector_registers.specs.Settings.{register_bytes, misaligned}
 use Rattle.vector_word.specs.declared.Fields.{Fields}

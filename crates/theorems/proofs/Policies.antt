@@ -1,15 +1,8 @@
 -- Every byte of the file after a word that is done is given by exactly one rule (`bytes-of-words`), and what follows from it for readers.
 -- Assumes nothing.
-use mathlib.Core.Bool.{Bool, true, false, true≢false, cond, not, ◌&&◌, ◌||◌}
-use mathlib.Core.List.{List}
-use mathlib.Core.Path.{◌≡◌, refl, sym, ap, subst, ◌∙◌}
-use Prim.Native.Nat.{ℕ, ◌+◌, ◌-◌, ◌*◌, ◌/◌, ◌%◌, ◌^◌, ◌<◌, ◌≤◌}
+use Rattle.std.proofs.Common.{Option, Some, None, Bool, true, false, true≢false, cond, not, ◌&&◌, ◌||◌, List, ◌≡◌, refl, sym, ap, subst, ◌∙◌, ℕ, ◌+◌, ◌-◌, ◌*◌, ◌/◌, ◌%◌, ◌^◌, ◌<◌, ◌≤◌, div-add-mod', mod-lt, mul-le-mul_right, suc-mul, le_of_suc-le-suc, mul_comm, arith, eq-eqb, eqb-true, leb-true, leb-false, eqb, leb, length, get_or}
 use native.Mathlib.Decide.{dec_le, dec_lt, ℕ_discrete}
-use native.Mathlib.Nat.{div-add-mod', mod-lt, mul-le-mul_right, suc-mul, le_of_suc-le-suc, mul_comm}
-use native.Mathlib.Omega.{arith}
-use borrow.Author.Tests.{eqb-false, eq-eqb, eqb-true, leb-true, leb-false, not-false}
-use lib.Dec.{eqb, leb}
-use lib.ListN.{length, get_or}
+use borrow.Author.Tests.{eqb-false, not-false}
 use Rattle.octets.specs.Bytes.{AreBytes}
 use Rattle.octets.proofs.BigEndian.{be_at-same}
 use Rattle.octets.proofs.LittleEndian.{read_le-same}
@@ -19,10 +12,9 @@ use Rattle.vector_registers.specs.Settings.{register_bytes, group_length, with_p
 use Rattle.vector_word.specs.declared.Fields.{Fields}
 use Rattle.vector_kind.specs.declared.Kind.{Kind}
 use Rattle.vector_kind.specs.declared.Kind.TheVariants.{VclmulVv, VclmulVx, VclmulhVv, VclmulhVx, VghshVv, VghshVs, VgmulVv, VgmulVs}
-use Rattle.vector_kind.specs.Kinds.{is_ghash}
-use Rattle.vector_word.specs.declared.Word.{Word}
-use Rattle.vector_word.specs.declared.Word.TheVariants.{Known, Unknown}
-use Rattle.vector_word.specs.Word.{decode, kinds, row, allows, vm_of, funct6_of}
+use Rattle.vector_kind.specs.Kinds.{is_ghash, kinds}
+use Rattle.vector_word.specs.declared.Instruction.{Instruction}
+use Rattle.vector_word.specs.Word.{decode, instruction, row, allows, vm_of, funct6_of}
 use Rattle.vector_word.proofs.Tests.{or-false}
 use Rattle.vector_word.proofs.Writer.{among-row, decoded-fit}
 use Rattle.vector_refusal.specs.Refusal.{refusal_of_known, refusal_of_decoded, refusal_of}
@@ -171,7 +163,7 @@ module _ (k : Kind) (f : Fields) (s : Settings) (file : List ℕ) (row : InARow 
 -- ---- a word that is not refused: its units in a row
 
 -- a GHASH word has vm 1
-ghash-unmasked : (word : ℕ) {k : Kind} {f : Fields} → decode word ≡ Known k f → is_ghash k ≡ true → f.vm ≡ 1
+ghash-unmasked : (word : ℕ) {k : Kind} {f : Fields} → decode word ≡ Some (instruction k f) → is_ghash k ≡ true → f.vm ≡ 1
 unfolding decode
 ghash-unmasked word {k} {f} known ghash =
     let found = among-row kinds word known in
@@ -188,7 +180,7 @@ ghash-unmasked word {k} {f} known ghash =
     is-1 VgmulVv e h = eqb-true (vm_of word) 1 h
     is-1 VgmulVs e h = eqb-true (vm_of word) 1 h
 
-module _ (word : ℕ) (s : Settings) {file_length : ℕ} {k : Kind} {f : Fields} (known : decode word ≡ Known k f) (a : Admitted file_length k f s) where
+module _ (word : ℕ) (s : Settings) {file_length : ℕ} {k : Kind} {f : Fields} (known : decode word ≡ Some (instruction k f)) (a : Admitted file_length k f s) where
   element-bytes : 0 < s.sew / 8
   element-bytes = omega (arith, (settings a).sew-bytes, (sews a).positive)
 
@@ -261,7 +253,7 @@ unit-same k f s i g h = go (is_ghash k)
 
 module _
     (word : ℕ) (s : Settings) (scalar : ℕ) (file : List ℕ) (bytes : AreBytes file) (number : refusal_of (length file) word s ≡ 0)
-    (k : Kind) (f : Fields) (known : decode word ≡ Known k f)
+    (k : Kind) (f : Fields) (known : decode word ≡ Some (instruction k f))
   where
     a : Admitted (length file) k f s
     a = admitted-as (length file) word s known number
@@ -342,7 +334,7 @@ module _
 pub bytes-of-words : BytesOfWords
 unfolding filled
 bytes-of-words word s scalar file bytes number k f known =
-    subst (EveryByte k f s scalar file) (ap (λ (w : Word). done w s scalar file) (sym known) ∙ (performed word s scalar file number).1)
+    subst (EveryByte k f s scalar file) (ap (λ (w : Option Instruction). done w s scalar file) (sym known) ∙ (performed word s scalar file number).1)
     (every word s scalar file bytes number k f known (leb s.vl s.vstart) refl)
 
 -- ---- for readers
@@ -388,6 +380,6 @@ pub numbers-ignore-policies : NumbersIgnorePolicies
 unfolding refusal_of refusal_of_known
 numbers-ignore-policies file_length word s vta vma = go (decode word)
   where
-    go : (w : Word) → refusal_of_decoded file_length w (with_policies vta vma s) ≡ refusal_of_decoded file_length w s
-    go Unknown = refl
-    go (Known k f) = refl
+    go : (w : Option Instruction) → refusal_of_decoded file_length w (with_policies vta vma s) ≡ refusal_of_decoded file_length w s
+    go None = refl
+    go (Some i) = refl

@@ -2,17 +2,10 @@
 -- pseudocode's) and `elements-follow` (each active element or element group is what the pseudocode gives from the file at entry). Below
 -- them, over the width: `low-is-clmul`, `high-is-clmulh`, the halves of a carry-less product are source 002's clmul and clmulh.
 -- Assumes nothing.
-use mathlib.Core.Bool.{Bool, true, false, cond}
-use mathlib.Core.List.{List}
-use mathlib.Core.Path.{◌≡◌, refl, sym, ap, ap₂, subst, ◌∙◌}
-use Prim.Native.Nat.{ℕ, zero, suc, ◌+◌, ◌-◌, ◌*◌, ◌/◌, ◌%◌, ◌^◌, ◌<◌, ◌≤◌, zero-le}
-use native.Mathlib.Nat.{div-eq_of_lt, zero-mod, mod-lt, mul_comm, mul-div-mul_right, zero-div, sub-zero, mul-zero, le_of_lt, le_of_eq, le_refl, mod-eq_of_lt, zero-add, le_of_suc-le-suc}
-use native.Mathlib.Omega.{arith}
+use Rattle.std.proofs.Common.{Option, Some, Bool, true, false, cond, List, ◌≡◌, refl, sym, ap, ap₂, subst, ◌∙◌, ℕ, zero, suc, ◌+◌, ◌-◌, ◌*◌, ◌/◌, ◌%◌, ◌^◌, ◌<◌, ◌≤◌, zero-le, mod-lt, mul_comm, mul-zero, le_of_lt, le_of_eq, le_refl, mod-eq_of_lt, zero-add, le_of_suc-le-suc, arith, le-leb, eqb, length, pow-add, pow_pos}
+use native.Mathlib.Nat.{div-eq_of_lt, zero-mod, mul-div-mul_right, zero-div, sub-zero}
 use lib.Bits.{bit_xor, xor_mod, xor_shr}
-use borrow.Author.Tests.{le-leb}
-use lib.Dec.{eqb}
-use lib.ListN.{length}
-use lib.Pow.{pow-add, pow_pos, shr_mod}
+use lib.Pow.{shr_mod}
 use lib.Seq.{sets}
 use Rattle.gf128.specs.Field.{product}
 use Rattle.gf128.specs.Bytes.{block_bytes, put_block}
@@ -26,9 +19,8 @@ use Rattle.vector_registers.specs.Settings.{register_bytes}
 use Rattle.vector_word.specs.declared.Fields.{Fields}
 use Rattle.vector_kind.specs.declared.Kind.{Kind}
 use Rattle.vector_kind.specs.declared.Kind.TheVariants.{VclmulVv, VclmulVx, VclmulhVv, VclmulhVx, VghshVv, VghshVs, VgmulVv, VgmulVs}
-use Rattle.vector_word.specs.declared.Word.{Word}
-use Rattle.vector_word.specs.declared.Word.TheVariants.{Known}
-use Rattle.vector_word.specs.Word.{decode}
+use Rattle.vector_word.specs.declared.Instruction.{Instruction}
+use Rattle.vector_word.specs.Word.{decode, instruction}
 use Rattle.vector_refusal.specs.Refusal.{refusal_of}
 use Rattle.vector_product.specs.declared.clmul.Half.{Half}
 use Rattle.vector_product.specs.declared.clmul.Half.TheVariants.{Low, High}
@@ -303,7 +295,7 @@ module _ (f : Fields) (s : Settings) (scalar : ℕ) (file : List ℕ) (n : Field
 -- ---- the statements
 
 module _ (word : ℕ) (s : Settings) (scalar : ℕ) (file : List ℕ) (bytes : AreBytes file) (number : refusal_of (length file) word s ≡ 0)
-    (k : Kind) (f : Fields) (known : decode word ≡ Known k f) where
+    (k : Kind) (f : Fields) (known : decode word ≡ Some (instruction k f)) where
   entry : Kept file file
   entry = record { same_length = refl; bytes = bytes }
 
@@ -312,7 +304,7 @@ module _ (word : ℕ) (s : Settings) (scalar : ℕ) (file : List ℕ) (bytes : A
   units = by_kind f s scalar file (decoded-fit word known) entry k (admitted-as (length file) word s known number)
 
   the_word : executed word s scalar file ≡ filled f s (done_known k f s scalar file)
-  the_word = sym (performed word s scalar file number).1 ∙ ap (λ (w : Word). done w s scalar file) known
+  the_word = sym (performed word s scalar file number).1 ∙ ap (λ (w : Option Instruction). done w s scalar file) known
 
   pub out-bytes : AreBytes (executed word s scalar file)
   out-bytes = subst AreBytes (sym the_word) (filled-bytes f s (settings (admitted-as (length file) word s known number)) (done_known k f s scalar file) units.1.bytes)

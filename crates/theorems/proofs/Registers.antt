@@ -1,17 +1,9 @@
 -- Register groups of words that are not refused: a group lies in the file, and two groups are equal or apart, so that bytes of another
 -- group are never among those of the units written before (`unread`).
 -- Assumes nothing.
-use mathlib.Core.Bool.{Bool, true, false, not, ◌||◌}
-use mathlib.Core.List.{List}
-use mathlib.Core.Logic.{⊎_elim}
-use mathlib.Core.Path.{◌≡◌, refl, sym, ap, subst}
-use Prim.Native.Nat.{ℕ, ◌+◌, ◌*◌, ◌/◌, ◌%◌, ◌^◌, ◌<◌, ◌≤◌}
+use Rattle.std.proofs.Common.{Bool, true, false, not, ◌||◌, List, ⊎_elim, ◌≡◌, refl, sym, ap, subst, ℕ, ◌+◌, ◌*◌, ◌/◌, ◌%◌, ◌^◌, ◌<◌, ◌≤◌, le-div_iff_mul-le, div-add-mod', mul-le-mul_right, suc-mul, le-mul_of_pos_right, le_trans, lt_of_not-le, mul_left_comm, add-mul, eq-or-lt_of_le, le_of_eq, one-mul, arith, eqb-true, ltb-false, eqb, ltb, get_or}
 use native.Mathlib.Decide.{dec_le}
-use native.Mathlib.Nat.{le-div_iff_mul-le, div-add-mod', mul-le-mul_right, suc-mul, le-mul_of_pos_right, le_trans, lt_of_not-le, mul_left_comm, add-mul, eq-or-lt_of_le, le_of_eq, one-mul}
-use native.Mathlib.Omega.{arith}
-use borrow.Author.Tests.{eqb-true, eqb-false, ltb-false, not-false}
-use lib.Dec.{eqb, ltb}
-use lib.ListN.{get_or}
+use borrow.Author.Tests.{eqb-false, not-false}
 use Rattle.vector_registers.specs.declared.settings.Settings.{Settings}
 use Rattle.vector_registers.specs.Settings.{applies1, applies3, register_bytes, file_bytes, group_registers, group_length, times_lmul, vlen_allowed, sew_allowed, lmul_allowed, vlmax, misaligned}
 use Rattle.vector_registers.proofs.Allowed.{each-vlen, each-sew, each-group, times-lmul}

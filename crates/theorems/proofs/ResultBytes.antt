@@ -1,11 +1,6 @@
 -- A byte of an active unit is its result's byte at that place (`result-bytes`).
 -- Assumes nothing.
-use mathlib.Core.Bool.{Bool, true, false, cond}
-use mathlib.Core.List.{List}
-use mathlib.Core.Path.{◌≡◌, sym, ap, ◌∙◌}
-use Prim.Native.Nat.{ℕ, suc, ◌+◌, ◌-◌, ◌/◌, ◌%◌, ◌^◌}
-use native.Mathlib.Omega.{arith}
-use lib.ListN.{get_or}
+use Rattle.std.proofs.Common.{Bool, true, false, cond, List, ◌≡◌, sym, ap, ◌∙◌, ℕ, suc, ◌+◌, ◌-◌, ◌/◌, ◌%◌, ◌^◌, arith, get_or}
 use Rattle.octets.specs.Bytes.{AreBytes}
 use Rattle.octets.specs.BigEndian.{be_at}
 use Rattle.octets.specs.LittleEndian.{read_le}

@@ -2,18 +2,11 @@
 -- xor, is document 01's product of the bits in the other order), `brev8-read` (an element group with the bits of each byte reversed is its
 -- block with all bits in the other order), `write-brev8` (and so it is written).
 -- Assumes nothing.
-use mathlib.Core.Bool.{cond}
-use mathlib.Core.List.{List}
-use mathlib.Core.Path.{◌≡◌, refl, sym, ap, ap₂, subst, ◌∙◌}
-use Prim.Native.Nat.{ℕ, zero, suc, ◌+◌, ◌-◌, ◌*◌, ◌/◌, ◌%◌, ◌^◌, ◌<◌, ◌≤◌}
-use native.Mathlib.Nat.{add-zero, add-suc, add_assoc, add-mul, zero-mul, one-mul, mul-one, mul_assoc, zero-lt-suc, lt_of_lt_of_le, le_of_eq, pow-suc, pow-succ', one-le-pow, mod-lt, mod-one, div-one, div-eq_of_lt, mod-eq_of_lt, zero-add, add_comm}
-use native.Mathlib.Numerals.{add-one, one-add}
-use native.Mathlib.Omega.{arith}
+use Rattle.std.proofs.Common.{cond, List, ◌≡◌, refl, sym, ap, ap₂, subst, ◌∙◌, ℕ, zero, suc, ◌+◌, ◌-◌, ◌*◌, ◌/◌, ◌%◌, ◌^◌, ◌<◌, ◌≤◌, add-zero, add-suc, add_assoc, add-mul, zero-mul, one-mul, mul-one, mul_assoc, zero-lt-suc, lt_of_lt_of_le, le_of_eq, pow-suc, mod-lt, div-one, mod-eq_of_lt, zero-add, add_comm, add-one, one-add, arith, eqb, get_or, set, pow_pos, shl_lt, shr-shr}
+use native.Mathlib.Nat.{pow-succ', one-le-pow, mod-one, div-eq_of_lt}
 use lib.Arith.{digits_lt, digits_div, digits_mod, mod-mul}
 use lib.Bits.{bit_xor, xor_block, xor_shr, xor_mod, xor_zero_r}
-use lib.Dec.{eqb}
-use lib.ListN.{get_or, set}
-use lib.Pow.{pow_pos, shl_lt, shr-shr, field, mod-mod-pow}
+use lib.Pow.{field, mod-mod-pow}
 use lib.Seq.{sets}
 use Rattle.octets.specs.BigEndian.{be_at, be_bytes}
 use Rattle.octets.specs.Bytes.{AreBytes}

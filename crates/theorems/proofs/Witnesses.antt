@@ -1,15 +1,9 @@
 -- One changed byte is one changed block: `any-byte-of-a`, `any-byte-of-c`; `any-nonzero-key`; and `witnesses`, which are some of them.
 -- Assumes nothing.
-use mathlib.Core.Path.{◌≡◌, refl, sym, ap, ◌∙◌, subst}
-use mathlib.Core.Logic.{◌≢◌, ⊎_elim}
-use mathlib.Core.List.{List, [], ◌∷◌, ◌++◌}
-use Prim.Native.Nat.{ℕ, zero, suc, ◌+◌, ◌*◌, ◌/◌, ◌%◌, ◌<◌, ◌≤◌, suc-le-suc}
-use native.Mathlib.Nat.{add-zero, zero-add, mod-lt, zero-lt-suc, not-suc-le-zero, le_of_suc-le-suc, suc-ne-zero, suc_inj, eq-or-lt_of_le, ne_of_lt, le_refl}
-use native.Mathlib.Omega.{arith}
+use Rattle.std.proofs.Common.{◌≡◌, refl, sym, ap, ◌∙◌, subst, ◌≢◌, ⊎_elim, List, [], ◌∷◌, ◌++◌, ℕ, zero, suc, ◌+◌, ◌*◌, ◌/◌, ◌%◌, ◌<◌, ◌≤◌, suc-le-suc, add-zero, zero-add, mod-lt, zero-lt-suc, not-suc-le-zero, le_of_suc-le-suc, suc-ne-zero, eq-or-lt_of_le, ne_of_lt, le_refl, arith, lit<, lit≤, length, get_or, set, replicate, length-append, length-set, get_or-set_same, get_or-set_other}
+use native.Mathlib.Nat.{suc_inj}
 use lib.Arith.{digits_div, digits_mod}
-use lib.Dec.{lit<, lit≤}
-use lib.ListN.{length, get_or, set, replicate, length-replicate, get_or-replicate, length-append, length-set, get_or-append}
-use lib.Seq.{get_or-set_same, get_or-set_other}
+use lib.ListN.{length-replicate, get_or-replicate, get_or-append}
 use Rattle.octets.specs.BigEndian.{be_at}
 use Rattle.octets.specs.Bytes.{AreBytes}
 use Rattle.octets.proofs.BigEndian.{be-same, bytes_inside}

@@ -1,16 +1,15 @@
 -- What a reader asks of an executed word (document 01, "Execution"), unit by unit: a unit is an element of SEW bits in a carry-less
 -- word, and a group of 128 bits in a GHASH word. What the policies do to the other bytes is in `Policies`.
 -- Assumes nothing.
-use Rattle.std.specs.Prelude.{ℕ, ◌+◌, ◌*◌, ◌/◌, ◌<◌, ◌≤◌, Bool, true, false, cond, ◌||◌, List, ◌≡◌, length, get_or}
+use Rattle.std.specs.Prelude.{ℕ, ◌+◌, ◌*◌, ◌/◌, ◌<◌, ◌≤◌, Bool, true, false, cond, ◌||◌, List, ◌≡◌, length, get_or, Some}
 use Rattle.std.specs.Int.Bits.{bit_xor}
 use Rattle.gf128.specs.Field.{product}
 use Rattle.vector_registers.specs.declared.settings.Settings.{Settings}
 use Rattle.vector_word.specs.declared.Fields.{Fields}
 use Rattle.vector_kind.specs.declared.Kind.{Kind}
 use Rattle.vector_kind.specs.declared.Kind.TheVariants.{VclmulVv, VclmulVx, VclmulhVv, VclmulhVx, VghshVv, VghshVs, VgmulVv, VgmulVs}
-use Rattle.vector_word.specs.declared.Word.TheVariants.{Known}
 use Rattle.vector_kind.specs.Kinds.{is_ghash, is_vs, has_vs1_group}
-use Rattle.vector_word.specs.Word.{decode}
+use Rattle.vector_word.specs.Word.{decode, instruction}
 use Rattle.vector_registers.specs.Settings.{register_bytes, group_length}
 use Rattle.vector_refusal.specs.Refusal.{refusal_of}
 use Rattle.vector_product.specs.Clmul.{clmul64, low_half, high_half}
@@ -95,4 +94,4 @@ pub record PlacesInFile (file_length : ℕ) (k : Kind) (f : Fields) (s : Setting
 abbrev pub EveryPlaceInFile : Type 0
 EveryPlaceInFile =
     (file_length word : ℕ) (s : Settings) → refusal_of file_length word s ≡ 0
-    → (k : Kind) (f : Fields) → decode word ≡ Known k f → PlacesInFile file_length k f s
+    → (k : Kind) (f : Fields) → decode word ≡ Some (instruction k f) → PlacesInFile file_length k f s

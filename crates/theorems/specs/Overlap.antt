@@ -2,13 +2,12 @@
 -- group" (`SevenIsOverlap`). So in a .vs word that is done no write touches the key (`WritesMissKey`), and the key that the word reads once,
 -- before any write, is also the one that stands in the file after each step and after the word (`KeyStays`).
 -- Assumes nothing.
-use Rattle.std.specs.Prelude.{ℕ, ◌-◌, ◌/◌, ◌<◌, ◌≤◌, true, List, ◌≡◌, length}
+use Rattle.std.specs.Prelude.{ℕ, ◌-◌, ◌/◌, ◌<◌, ◌≤◌, true, List, ◌≡◌, length, Some}
 use Rattle.vector_registers.specs.declared.settings.Settings.{Settings}
 use Rattle.vector_word.specs.declared.Fields.{Fields}
 use Rattle.vector_kind.specs.declared.Kind.{Kind}
 use Rattle.vector_kind.specs.Kinds.{is_vs}
-use Rattle.vector_word.specs.declared.Word.TheVariants.{Known}
-use Rattle.vector_word.specs.Word.{decode}
+use Rattle.vector_word.specs.Word.{decode, instruction}
 use Rattle.vector_refusal.specs.Refusal.{refusal_of}
 use Rattle.vector_element.specs.Element.{block_place}
 use Rattle.vector_element.specs.Steps.{steps}
@@ -32,7 +31,7 @@ KeyOverlaps k f s = (is_vs k ≡ true) × (p : ℕ) × InKey f s p × InVdGroup 
 -- a word and settings that no smaller number refuses are refused with 7 exactly when the key overlaps
 abbrev pub SevenIsOverlap : Type 0
 SevenIsOverlap =
-    (file_length word : ℕ) (s : Settings) (k : Kind) (f : Fields) → decode word ≡ Known k f
+    (file_length word : ℕ) (s : Settings) (k : Kind) (f : Fields) → decode word ≡ Some (instruction k f)
     → ((0 < refusal_of file_length word s) × (refusal_of file_length word s < 7) → ⊥)
     → (refusal_of file_length word s ≡ 7 → KeyOverlaps k f s) × (KeyOverlaps k f s → refusal_of file_length word s ≡ 7)
 
@@ -40,7 +39,7 @@ SevenIsOverlap =
 abbrev pub WritesMissKey : Type 0
 WritesMissKey =
     (file_length word : ℕ) (s : Settings) → refusal_of file_length word s ≡ 0
-    → (k : Kind) (f : Fields) → decode word ≡ Known k f → is_vs k ≡ true
+    → (k : Kind) (f : Fields) → decode word ≡ Some (instruction k f) → is_vs k ≡ true
     → (p : ℕ) → InVdGroup f s p → InKey f s p → ⊥
 
 -- the key in a file
@@ -57,4 +56,4 @@ pub record KeyKept (word : ℕ) (s : Settings) (scalar : ℕ) (file : List ℕ) 
 abbrev pub KeyStays : Type 0
 KeyStays =
     (word : ℕ) (s : Settings) (scalar : ℕ) (file : List ℕ) → refusal_of (length file) word s ≡ 0
-    → (k : Kind) (f : Fields) → decode word ≡ Known k f → is_vs k ≡ true → KeyKept word s scalar file f
+    → (k : Kind) (f : Fields) → decode word ≡ Some (instruction k f) → is_vs k ≡ true → KeyKept word s scalar file f

@@ -3,15 +3,14 @@
 -- says (`InactiveIs`). No byte outside vd's group changes (`OnlyVdGroup`), and no refusal number looks at the policies
 -- (`NumbersIgnorePolicies`).
 -- Assumes nothing.
-use Rattle.std.specs.Prelude.{ℕ, ◌+◌, ◌-◌, ◌*◌, ◌/◌, ◌%◌, ◌^◌, ◌<◌, ◌≤◌, Bool, true, false, cond, List, ◌≡◌, length, get_or}
+use Rattle.std.specs.Prelude.{ℕ, ◌+◌, ◌-◌, ◌*◌, ◌/◌, ◌%◌, ◌^◌, ◌<◌, ◌≤◌, Bool, true, false, cond, List, ◌≡◌, length, get_or, Some}
 use Rattle.octets.specs.Bytes.{AreBytes}
 use Rattle.vector_registers.specs.declared.settings.Settings.{Settings}
 use Rattle.vector_registers.specs.Settings.{register_bytes, group_length, with_policies}
 use Rattle.vector_word.specs.declared.Fields.{Fields}
 use Rattle.vector_kind.specs.declared.Kind.{Kind}
 use Rattle.vector_kind.specs.Kinds.{is_ghash}
-use Rattle.vector_word.specs.declared.Word.TheVariants.{Known}
-use Rattle.vector_word.specs.Word.{decode}
+use Rattle.vector_word.specs.Word.{decode, instruction}
 use Rattle.vector_refusal.specs.Refusal.{refusal_of}
 use Rattle.vector_element.specs.Element.{element_at, mask_bit}
 use Rattle.vector_execute.specs.Execute.{executed}
@@ -68,7 +67,7 @@ pub record EveryByte (k : Kind) (f : Fields) (s : Settings) (scalar : ℕ) (file
 abbrev pub BytesOfWords : Type 0
 BytesOfWords =
     (word : ℕ) (s : Settings) (scalar : ℕ) (file : List ℕ) → AreBytes file → refusal_of (length file) word s ≡ 0
-    → (k : Kind) (f : Fields) → decode word ≡ Known k f → EveryByte k f s scalar file (executed word s scalar file)
+    → (k : Kind) (f : Fields) → decode word ≡ Some (instruction k f) → EveryByte k f s scalar file (executed word s scalar file)
 
 -- byte j of a number that stands in 16 bytes with the highest first, or with the lowest first
 abbrev pub byte_in : Bool → ℕ → ℕ → ℕ
@@ -82,20 +81,20 @@ byte_of k v j = byte_in (is_ghash k) v j
 abbrev pub ResultBytes : Type 0
 ResultBytes =
     (word : ℕ) (s : Settings) (scalar : ℕ) (file : List ℕ) → AreBytes file → refusal_of (length file) word s ≡ 0
-    → (k : Kind) (f : Fields) → decode word ≡ Known k f → (p i : ℕ) → InUnit k f s file true i p
+    → (k : Kind) (f : Fields) → decode word ≡ Some (instruction k f) → (p i : ℕ) → InUnit k f s file true i p
     → get_or (executed word s scalar file) p 0 ≡ byte_of k (result_of k f s scalar file i) (p - unit_place k f s i)
 
 -- a unit is not active exactly when it is an element, vm is 0 and its mask bit is 0
 abbrev pub InactiveIs : Type 0
 InactiveIs =
-    (word : ℕ) (k : Kind) (f : Fields) → decode word ≡ Known k f → (file : List ℕ) (i : ℕ)
+    (word : ℕ) (k : Kind) (f : Fields) → decode word ≡ Some (instruction k f) → (file : List ℕ) (i : ℕ)
     → (active_unit k f file i ≡ false → (is_ghash k ≡ false) × (f.vm ≡ 0) × (mask_bit file i ≡ 0))
     × ((is_ghash k ≡ false) × (f.vm ≡ 0) × (mask_bit file i ≡ 0) → active_unit k f file i ≡ false)
 
 -- a call, refused or not, changes no byte outside vd's group
 abbrev pub OnlyVdGroup : Type 0
 OnlyVdGroup =
-    (word : ℕ) (s : Settings) (scalar : ℕ) (file : List ℕ) → AreBytes file → (k : Kind) (f : Fields) → decode word ≡ Known k f
+    (word : ℕ) (s : Settings) (scalar : ℕ) (file : List ℕ) → AreBytes file → (k : Kind) (f : Fields) → decode word ≡ Some (instruction k f)
     → (p : ℕ) → (InVdGroup f s p → ⊥) → get_or (executed word s scalar file) p 0 ≡ get_or file p 0
 
 -- a word has the same number under all policies

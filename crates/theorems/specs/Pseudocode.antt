@@ -2,7 +2,7 @@
 -- what an executed word has to do with it (`FollowsPseudocode`, `ElementsFollowPseudocode`). A value of type bits(n) is a number below
 -- 2 ^ n. Where document 01 decides otherwise, a comment says so at that line.
 -- Assumes nothing.
-use Rattle.std.specs.Prelude.{ℕ, zero, suc, ◌+◌, ◌-◌, ◌*◌, ◌/◌, ◌%◌, ◌^◌, ◌<◌, ◌≤◌, Bool, true, cond, List, ◌≡◌, eqb, length}
+use Rattle.std.specs.Prelude.{ℕ, zero, suc, ◌+◌, ◌-◌, ◌*◌, ◌/◌, ◌%◌, ◌^◌, ◌<◌, ◌≤◌, Bool, true, cond, List, ◌≡◌, eqb, length, Some}
 use Rattle.std.specs.Int.Bits.{bit_xor}
 use Rattle.octets.specs.Bytes.{AreBytes}
 use Rattle.vector_registers.specs.declared.settings.Settings.{Settings}
@@ -10,8 +10,7 @@ use Rattle.vector_registers.specs.Settings.{register_bytes}
 use Rattle.vector_word.specs.declared.Fields.{Fields}
 use Rattle.vector_kind.specs.declared.Kind.{Kind}
 use Rattle.vector_kind.specs.declared.Kind.TheVariants.{VclmulVv, VclmulVx, VclmulhVv, VclmulhVx, VghshVv, VghshVs, VgmulVv, VgmulVs}
-use Rattle.vector_word.specs.declared.Word.TheVariants.{Known}
-use Rattle.vector_word.specs.Word.{decode}
+use Rattle.vector_word.specs.Word.{decode, instruction}
 use Rattle.vector_kind.specs.Kinds.{is_ghash}
 use Rattle.vector_refusal.specs.Refusal.{refusal_of}
 use Rattle.octets.specs.LittleEndian.{read_le, write_le}
@@ -262,7 +261,7 @@ pseudocode VgmulVs f s scalar file = VGMUL f s file
 abbrev pub FollowsPseudocode : Type 0
 FollowsPseudocode =
     (word : ℕ) (s : Settings) (scalar : ℕ) (file : List ℕ) → AreBytes file → refusal_of (length file) word s ≡ 0
-    → (k : Kind) (f : Fields) → decode word ≡ Known k f → executed word s scalar file ≡ filled f s (pseudocode k f s scalar file)
+    → (k : Kind) (f : Fields) → decode word ≡ Some (instruction k f) → executed word s scalar file ≡ filled f s (pseudocode k f s scalar file)
 
 -- the bits of an element, or of an element group, of a word of a kind
 abbrev pub width_of : Kind → Settings → ℕ
@@ -285,6 +284,6 @@ given VgmulVs f s scalar file i = brev8 (multiplied (brev8 (get_velem s file f.v
 abbrev pub ElementsFollowPseudocode : Type 0
 ElementsFollowPseudocode =
     (word : ℕ) (s : Settings) (scalar : ℕ) (file : List ℕ) → AreBytes file → refusal_of (length file) word s ≡ 0
-    → (k : Kind) (f : Fields) → decode word ≡ Known k f
+    → (k : Kind) (f : Fields) → decode word ≡ Some (instruction k f)
     → (i : ℕ) → first_unit k s ≤ i → i < past_unit k s → active_unit k f file i ≡ true
     → get_velem s (executed word s scalar file) f.vd (width_of k s) i ≡ given k f s scalar file i

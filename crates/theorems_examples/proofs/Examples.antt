@@ -1,12 +1,7 @@
 -- The examples hold (`examples`): one test of an example, computed over the table, and one law that turns the test into what the example
 -- says, as for the marked cases. Assumes nothing.
-use mathlib.Core.Path.{◌≡◌, refl, sym, ap, ap₂, subst, ◌∙◌}
-use mathlib.Core.Bool.{Bool, true, false, true≢false, cond, not, ◌&&◌, ◌||◌}
-use mathlib.Core.List.{List, [], ◌∷◌, ◌++◌}
-use Prim.Native.Nat.{ℕ, ◌+◌, ◌-◌, ◌/◌}
-use borrow.Author.Tests.{eqb-true, eqb-false, eq-eqb}
-use lib.Dec.{T, eqb, ltb, eqb→eq}
-use lib.ListN.{length, get_or, replicate}
+use Rattle.std.proofs.Common.{◌≡◌, refl, sym, ap, ap₂, subst, ◌∙◌, Bool, true, false, true≢false, cond, not, ◌&&◌, ◌||◌, List, [], ◌∷◌, ◌++◌, ℕ, ◌+◌, ◌-◌, ◌/◌, Option, Some, None, eqb-true, eq-eqb, T, eqb, ltb, eqb→eq, length, get_or, replicate}
+use borrow.Author.Tests.{eqb-false}
 use Rattle.octets.specs.BigEndian.{be_at, be_bytes}
 use Rattle.gf128.specs.Bytes.{put_block}
 use Rattle.gf128.specs.Degree.{highest, degree_of, degree_refusal, degree_number, degree_place}
@@ -22,12 +17,10 @@ use Rattle.vector_word.specs.declared.Fields.{Fields}
 use Rattle.vector_kind.specs.declared.Kind.{Kind}
 use Rattle.vector_kind.specs.declared.Kind.TheVariants.{VclmulVv, VclmulVx, VclmulhVv, VclmulhVx, VghshVv, VghshVs, VgmulVv, VgmulVs}
 use Rattle.vector_kind.specs.Kinds.{kind_number}
-use Rattle.vector_word.specs.declared.Encoded.{Encoded}
-use Rattle.vector_word.specs.declared.Word.{Word}
-use Rattle.vector_word.specs.declared.Word.TheVariants.{Known, Unknown}
+use Rattle.vector_word.specs.declared.Instruction.{Instruction}
 use Rattle.vector_word.specs.Word.{decode}
-use Rattle.vector_numbers.specs.declared.Decoded.{Decoded}
-use Rattle.vector_numbers.specs.Numbers.{encoded_numbered, decoded_numbered}
+use Rattle.vector_word.specs.Writer.{Encoded}
+use Rattle.vector_numbers.specs.Numbers.{Decoded, encoded_numbered, decoded_numbered}
 use Rattle.vector_listing.specs.Listing.{listed, listed_into}
 use Rattle.vector_listing.specs.Text.{ascii, text, text_of}
 use Rattle.vector_reader.specs.Reading.{Reads}
@@ -66,9 +59,9 @@ units_by p VghshVs f s scalar bytes = ghash_by p YXorX f s (λ i b. group s byte
 units_by p VgmulVv f s scalar bytes = ghash_by p YAlone f s (λ i b. group s b f.vs2 i) bytes
 units_by p VgmulVs f s scalar bytes = ghash_by p YAlone f s (λ i b. group s bytes f.vs2 0) bytes
 
-done_by : (ℕ → ℕ → ℕ) → Word → Settings → ℕ → List ℕ → List ℕ
-done_by p Unknown s scalar bytes = bytes
-done_by p (Known k f) s scalar bytes = filled f s (units_by p k f s scalar bytes)
+done_by : (ℕ → ℕ → ℕ) → Option Instruction → Settings → ℕ → List ℕ → List ℕ
+done_by p None s scalar bytes = bytes
+done_by p (Some x) s scalar bytes = filled x.fields s (units_by p x.kind x.fields s scalar bytes)
 
 executed_by : (ℕ → ℕ → ℕ) → ℕ → Settings → ℕ → List ℕ → List ℕ
 executed_by p w s scalar bytes = cond (eqb (refusal_of (length bytes) w s) 0) (done_by p (decode w) s scalar bytes) bytes
@@ -84,10 +77,10 @@ units-by VghshVs f s scalar bytes = refl
 units-by VgmulVv f s scalar bytes = refl
 units-by VgmulVs f s scalar bytes = refl
 
-done-by : (w : Word) (s : Settings) (scalar : ℕ) (bytes : List ℕ) → done_by product w s scalar bytes ≡ done w s scalar bytes
+done-by : (w : Option Instruction) (s : Settings) (scalar : ℕ) (bytes : List ℕ) → done_by product w s scalar bytes ≡ done w s scalar bytes
 unfolding done_by
-done-by Unknown s scalar bytes = refl
-done-by (Known k f) s scalar bytes = ap (filled f s) (units-by k f s scalar bytes)
+done-by None s scalar bytes = refl
+done-by (Some x) s scalar bytes = ap (filled x.fields s) (units-by x.kind x.fields s scalar bytes)
 
 quick-executed : (w : ℕ) (s : Settings) (scalar : ℕ) (bytes : List ℕ) → executed_by quick_product w s scalar bytes ≡ executed w s scalar bytes
 unfolding executed_by executed

@@ -1,15 +1,7 @@
 -- Document 01's marked cases hold (`marked`): one test of a case, computed over the table, and one law that turns the test into what the
 -- case says. Assumes nothing.
-use mathlib.Core.Path.{◌≡◌, refl, sym, ap, ◌∙◌, subst, subst₂}
-use mathlib.Core.Bool.{Bool, true, false, cond, ◌&&◌}
-use mathlib.Core.List.{List, [], ◌∷◌}
-use Prim.Native.Nat.{ℕ, zero, suc, ◌/◌, ◌^◌, ◌<◌}
-use native.Mathlib.Nat.{div-lt_iff_lt-mul}
-use borrow.Author.Tests.{eqb-true, eqb-false}
-use lib.Bits.{bit_xor}
-use lib.Dec.{T, eqb, eqb→eq, lit<}
-use lib.Pow.{pow_pos}
-use lib.ListN.{get_or}
+use Rattle.std.proofs.Common.{◌≡◌, refl, sym, ap, ◌∙◌, subst, subst₂, Bool, true, false, cond, ◌&&◌, List, [], ◌∷◌, ℕ, zero, suc, ◌/◌, ◌^◌, ◌<◌, div-lt_iff_lt-mul, Option, Some, None, eqb-true, bit_xor, T, eqb, eqb→eq, lit<, pow_pos, get_or}
+use borrow.Author.Tests.{eqb-false}
 use Rattle.octets.specs.BigEndian.{be_at}
 use Rattle.gf128.specs.Hash.{blocks_from, blocks_of, length_block, message_of}
 use Rattle.gf128.specs.StepBack.{IsBlock, StepsBack}
@@ -18,10 +10,9 @@ use Rattle.gf128.proofs.Tests.{and_left, and_right}
 use Rattle.gf128.proofs.StepBack.{steps-to, steps-none, steps-many}
 use Rattle.vector_kind.specs.declared.Kind.{Kind}
 use Rattle.vector_kind.specs.declared.Kind.TheVariants.{VclmulVv, VclmulVx, VclmulhVv, VclmulhVx, VghshVv, VghshVs, VgmulVv, VgmulVs}
-use Rattle.vector_kind.specs.Kinds.{kind_number}
-use Rattle.vector_word.specs.declared.Word.{Word}
-use Rattle.vector_word.specs.declared.Word.TheVariants.{Known, Unknown}
-use Rattle.vector_word.specs.Word.{decode, kinds}
+use Rattle.vector_kind.specs.Kinds.{kinds, kind_number}
+use Rattle.vector_word.specs.declared.Instruction.{Instruction}
+use Rattle.vector_word.specs.Word.{instruction, decode}
 use Rattle.vector_product.specs.Clmul.{clmul, clmul64, low_half, high_half}
 use Rattle.theorems_examples.specs.Marked.{Case, carryless, times, back, word, hash, table, Holds, MarkedCasesHold}
 use Rattle.theorems_examples.proofs.Rows.{all_right, all-show}
@@ -34,9 +25,9 @@ same [] (y ∷ ys) = false
 same (x ∷ xs) [] = false
 same (x ∷ xs) (y ∷ ys) = eqb x y && same xs ys
 
-unfoldable pub numbers_of : Word → List ℕ
-numbers_of (Known k f) = kind_number k ∷ f.vm ∷ f.vd ∷ f.vs2 ∷ f.vs1 ∷ []
-numbers_of Unknown = []
+unfoldable pub numbers_of : Option Instruction → List ℕ
+numbers_of (Some x) = kind_number x.kind ∷ x.fields.vm ∷ x.fields.vd ∷ x.fields.vs2 ∷ x.fields.vs1 ∷ []
+numbers_of None = []
 
 -- what a number has above a block's 128 digits
 abbrev pub above : ℕ → ℕ
@@ -75,14 +66,16 @@ at_place VghshVs = refl
 at_place VgmulVv = refl
 at_place VgmulVs = refl
 
-pub is_word : (w : Word) (k : Kind) (vm vd vs2 vs1 : ℕ) → T (same (numbers_of w) (kind_number k ∷ vm ∷ vd ∷ vs2 ∷ vs1 ∷ []))
-    → w ≡ Known k (record { vm = vm; vs2 = vs2; vs1 = vs1; vd = vd })
+pub is_word : (w : Option Instruction) (k : Kind) (vm vd vs2 vs1 : ℕ) → T (same (numbers_of w) (kind_number k ∷ vm ∷ vd ∷ vs2 ∷ vs1 ∷ []))
+    → w ≡ Some (instruction k (record { vm = vm; vs2 = vs2; vs1 = vs1; vd = vd }))
 unfolding numbers_of same
-is_word (Known j f) k vm vd vs2 vs1 t =
+is_word (Some x) k vm vd vs2 vs1 t =
+    let j = x.kind in
+    let f = x.fields in
     let e = same_at (kind_number j ∷ f.vm ∷ f.vd ∷ f.vs2 ∷ f.vs1 ∷ []) (kind_number k ∷ vm ∷ vd ∷ vs2 ∷ vs1 ∷ []) t in
     let kind : j ≡ k = sym (at_place j) ∙ ap (λ (n : ℕ). get_or kinds n VclmulVv) (e 0) ∙ at_place k in
-    λ i. Known (kind i) (record { vm = e 1 i; vs2 = e 3 i; vs1 = e 4 i; vd = e 2 i })
-is_word Unknown k vm vd vs2 vs1 t = absurd t
+    λ i. Some (instruction (kind i) (record { vm = e 1 i; vs2 = e 3 i; vs1 = e 4 i; vd = e 2 i }))
+is_word None k vm vd vs2 vs1 t = absurd t
 
 is_block : (n : ℕ) → above n ≡ 0 → IsBlock n
 is_block n e = (div-lt_iff_lt-mul (pow_pos 128)).0 (subst (λ (q : ℕ). q < 1) (sym e) (lit< tt))

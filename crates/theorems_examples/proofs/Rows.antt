@@ -1,8 +1,6 @@
 -- A table of rows holds (`all-show`) if one test of a row, computed over the table, shows what the row says.
 -- Assumes nothing.
-use mathlib.Core.Bool.{Bool, true, ◌&&◌}
-use mathlib.Core.List.{List, [], ◌∷◌}
-use lib.Dec.{T}
+use Rattle.std.proofs.Common.{Bool, true, ◌&&◌, List, [], ◌∷◌, T}
 use Rattle.gf128.proofs.Tests.{and_left, and_right}
 use Rattle.theorems_examples.specs.Rows.{AllHold}
 

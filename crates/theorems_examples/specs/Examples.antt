@@ -2,7 +2,7 @@
 -- its limit, each clause of "malformed", words with their texts and with the bytes that they leave, carry-less products of pieces. A rule
 -- that is changed here or there no longer fits its row.
 -- Assumes nothing.
-use Rattle.std.specs.Prelude.{ℕ, ◌*◌, ◌≡◌, Bool, true, false, List, [], ◌∷◌, ◌++◌, length, set, replicate}
+use Rattle.std.specs.Prelude.{ℕ, ◌*◌, ◌≡◌, Bool, true, false, List, [], ◌∷◌, ◌++◌, length, set, replicate, Some}
 use Prim.Native.String.{String}
 use Rattle.std.proofs.lemmas.List.Edits.{sets}
 use Rattle.gf128.specs.Bytes.{block_bytes}
@@ -15,8 +15,7 @@ use Rattle.vector_registers.specs.Settings.{with_policies}
 use Rattle.vector_group.specs.Group.{group_refusal, part_start, part_length}
 use Rattle.vector_kind.specs.declared.Kind.{Kind}
 use Rattle.vector_kind.specs.declared.Kind.TheVariants.{VclmulVv, VclmulVx, VclmulhVv, VclmulhVx, VghshVv, VghshVs, VgmulVv, VgmulVs}
-use Rattle.vector_word.specs.declared.Word.TheVariants.{Known}
-use Rattle.vector_word.specs.Word.{decode}
+use Rattle.vector_word.specs.Word.{instruction, decode}
 use Rattle.vector_numbers.specs.Numbers.{encoded_numbered, decoded_numbered}
 use Rattle.vector_listing.specs.Listing.{listed, listed_into}
 use Rattle.vector_listing.specs.Text.{ascii, text_of}
@@ -106,7 +105,7 @@ pub data Example : Type 0 where
 abbrev pub Holds : Example → Type 0
 Holds (call file_length w s number) = refusal_of file_length w s ≡ number
 Holds (known kind vm vd vs2 vs1 s number) = refusal_of_known kind (record { vm = vm; vs2 = vs2; vs1 = vs1; vd = vd }) s ≡ number
-Holds (word w kind vm vd vs2 vs1) = decode w ≡ Known kind (record { vm = vm; vs2 = vs2; vs1 = vs1; vd = vd })
+Holds (word w kind vm vd vs2 vs1) = decode w ≡ Some (instruction kind (record { vm = vm; vs2 = vs2; vs1 = vs1; vd = vd }))
 Holds (encodes kind vm vs2 vs1 vd number w) = encoded_numbered kind (record { vm = vm; vs2 = vs2; vs1 = vs1; vd = vd }) ≡ record { number = number; word = w }
 Holds (decodes w number kind vm vs2 vs1 vd) =
     decoded_numbered w ≡ record { number = number; kind = kind; fields = record { vm = vm; vs2 = vs2; vs1 = vs1; vd = vd } }

@@ -1,14 +1,13 @@
 -- Document 01's "Marked cases", K1 to K14, as one table with one statement, `MarkedCasesHold`. They speak of the written rules, not of code.
 -- Assumes nothing.
-use Rattle.std.specs.Prelude.{ℕ, ◌+◌, ◌-◌, ◌≡◌, List, [], ◌∷◌, ◌++◌, length, replicate}
+use Rattle.std.specs.Prelude.{ℕ, ◌+◌, ◌-◌, ◌≡◌, List, [], ◌∷◌, ◌++◌, length, replicate, Some}
 use Rattle.gf128.specs.Bytes.{block_at}
 use Rattle.gf128.specs.Field.{product}
 use Rattle.gf128.specs.Hash.{ghash}
 use Rattle.gf128.specs.StepBack.{StepsBack}
 use Rattle.vector_kind.specs.declared.Kind.{Kind}
 use Rattle.vector_kind.specs.declared.Kind.TheVariants.{VghshVv}
-use Rattle.vector_word.specs.declared.Word.TheVariants.{Known}
-use Rattle.vector_word.specs.Word.{decode}
+use Rattle.vector_word.specs.Word.{instruction, decode}
 use Rattle.vector_product.specs.Clmul.{clmul64, low_half, high_half}
 use Rattle.theorems_examples.specs.Rows.{AllHold}
 
@@ -34,7 +33,7 @@ abbrev pub Holds : Case → Type 0
 Holds (carryless sew a b low high) = (low_half sew (clmul64 a b) ≡ low) × (high_half sew (clmul64 a b) ≡ high)
 Holds (times u h p) = product u h ≡ p
 Holds (back h x y1 number block) = StepsBack h x y1 number block
-Holds (word w kind vm vd vs2 vs1) = decode w ≡ Known kind (record { vm = vm; vs2 = vs2; vs1 = vs1; vd = vd })
+Holds (word w kind vm vd vs2 vs1) = decode w ≡ Some (instruction kind (record { vm = vm; vs2 = vs2; vs1 = vs1; vd = vd }))
 Holds (hash h a c block) = ghash h a c ≡ block
 
 unfoldable pub table : List Case

@@ -1,11 +1,6 @@
 -- The examples hold (`examples`): one test of an example, computed over the table, and one law that turns the test into what the example
 -- says. Assumes nothing.
-use mathlib.Core.Bool.{Bool, ◌&&◌}
-use mathlib.Core.List.{List, [], ◌∷◌}
-use mathlib.Core.Path.{refl}
-use Prim.Native.Nat.{ℕ}
-use lib.Dec.{T, eqb, eqb→eq}
-use lib.ListN.{length}
+use Rattle.std.proofs.Common.{Bool, ◌&&◌, List, [], ◌∷◌, refl, ℕ, T, eqb, eqb→eq, length}
 use Rattle.octets.specs.BigEndian.{be_bytes}
 use Rattle.octets.specs.LittleEndian.{read_le, write_le, le_bytes}
 use Rattle.gf128.proofs.Tests.{and_left, and_right}
@@ -21,8 +16,7 @@ use Rattle.trace_record.specs.Record.{record_at, records_from, record_bytes, wri
 use Rattle.trace_policy.specs.Policy.{policy_of}
 use Rattle.trace_reader.specs.Reader.{next_at, place_after}
 use Rattle.trace_form.specs.Form.{policies_from, well_formed}
-use Rattle.trace_replay.specs.declared.Replayed.{Replayed}
-use Rattle.trace_replay.specs.Replay.{replay_from, replayed, number_of, index_of}
+use Rattle.trace_replay.specs.Replay.{Replayed, replay_from, replayed, number_of, index_of}
 use Rattle.theorems_examples.specs.Examples.{file}
 use Rattle.theorems_examples.proofs.Marked.{same, same_at}
 use Rattle.theorems_examples.proofs.Examples.{same-list}

@@ -1,14 +1,12 @@
 -- Examples of the rules of traces, as one table with one statement, `ExamplesHold`: the bytes of a record, what the reader gives, and replays
 -- with the file after each, on both sides of every limit. A rule that is changed here or there no longer fits its row.
 -- Assumes nothing.
-use Rattle.std.specs.Prelude.{ℕ, ◌≡◌, Bool, true, false, List, [], ◌∷◌, ◌++◌, length, set, replicate, take}
+use Rattle.std.specs.Prelude.{ℕ, ◌≡◌, Bool, true, false, List, [], ◌∷◌, ◌++◌, length, set, replicate, take, Option, Some, None}
 use Rattle.theorems_examples.specs.Examples.{file}
 use Rattle.theorems_examples.specs.Rows.{AllHold}
 use Rattle.trace_record.specs.declared.Record.{Record}
 use Rattle.trace_record.specs.Record.{record_bytes, write_number, written_into}
 use Rattle.trace_policy.specs.Policy.{policy_of}
-use Rattle.trace_reader.specs.declared.Next.{Next}
-use Rattle.trace_reader.specs.declared.Next.TheVariants.{Whole, End}
 use Rattle.trace_reader.specs.Reader.{next_at, place_after}
 use Rattle.trace_replay.specs.Replay.{replayed, number_of, index_of}
 
@@ -22,10 +20,10 @@ abbrev pub numbered_bytes : (sew lmul answer policy : ℕ) → List ℕ
 numbered_bytes sew lmul answer policy =
     1 ∷ 2 ∷ 3 ∷ 4 ∷ sew ∷ lmul ∷ answer ∷ policy ∷ 9 ∷ 10 ∷ 11 ∷ 12 ∷ 13 ∷ 14 ∷ 15 ∷ 16 ∷ 17 ∷ 18 ∷ 19 ∷ 20 ∷ 21 ∷ 22 ∷ 23 ∷ 24 ∷ []
 
--- what a reader gives, as the record's bytes; none at the end
-abbrev pub given_bytes : Next → List ℕ
-given_bytes (Whole r) = record_bytes r
-given_bytes End = []
+-- what a reader gives, as the record's bytes; none of them at the end
+abbrev pub given_bytes : Option Record → List ℕ
+given_bytes (Some r) = record_bytes r
+given_bytes None = []
 
 -- the bytes of a record of a word at LMUL 1, with both policies off
 abbrev pub line : (word sew answer vl vstart scalar : ℕ) → List ℕ
@@ -82,7 +80,7 @@ table =
     ∷ policies true false 1
     ∷ policies false true 2
     ∷ policies true true 3
-    -- the reader: whole records, then the end; a rest of under 24 bytes is no record
+    -- the reader: whole records, then none; a rest of under 24 bytes is no record
     ∷ gives [] 0 [] 0
     ∷ gives (numbered_bytes 5 6 7 3) 0 (numbered_bytes 5 6 7 3) 24
     ∷ gives (numbered_bytes 5 6 7 3) 24 [] 24

@@ -1,14 +1,8 @@
 -- The test of a trace holds exactly when its length is a multiple of 24 and all its policy bytes are at most 3.
 -- Assumes nothing.
-use Prim.Native.Nat.{ℕ, zero, suc, ◌+◌, ◌-◌, ◌*◌, ◌/◌, ◌%◌, ◌<◌, ◌≤◌}
-use mathlib.Core.Bool.{true, ◌&&◌}
-use mathlib.Core.List.{List}
-use mathlib.Core.Path.{◌≡◌, refl, sym, ap, subst, ◌∙◌}
-use native.Mathlib.Nat.{add-zero, zero-add}
-use native.Mathlib.Omega.{arith}
-use borrow.Author.Tests.{eqb-true, eq-eqb, leb-true, le-leb}
-use lib.Dec.{eqb, leb}
-use lib.ListN.{length}
+use Rattle.std.proofs.Common.{ℕ, zero, suc, ◌+◌, ◌*◌, ◌/◌, ◌%◌, ◌<◌, ◌≤◌, Bool, true, ◌&&◌, List, ◌≡◌, refl, sym, ap, subst, ◌∙◌, add-zero, zero-add, arith, eqb-true, eq-eqb, leb-true, le-leb, eqb, leb, length}
+use Rattle.std.specs.List.{list_all, range_with_len}
+use Rattle.octets.specs.LittleEndian.{read_le}
 use Rattle.octets.proofs.Tests.{both}
 use Rattle.trace_record.specs.Record.{record_at}
 use Rattle.trace_form.specs.Form.{policies_from, well_formed, WellFormed, TestIsExact}
@@ -34,15 +28,15 @@ policies-told (suc n) trace at h =
     rw (le-leb (policy_at trace at) 3 (subst (λ (p : ℕ). policy_at trace p ≤ 3) (add-zero at) (h 0 (omega arith))))
     (policies-told n trace (at + 24) (λ i l. let e : at + 24 + 24 * i ≡ at + 24 * suc i = omega arith in rw e (h (suc i) (omega arith))))
 
--- one record more, at its index
-pub policies-more : (n : ℕ) (trace : List ℕ) (i : ℕ) → i < n
-    → policies_from (n - i) trace (24 * i) ≡ (leb (policy_at trace (24 * i)) 3 && policies_from (n - (i + 1)) trace (24 * (i + 1)))
-unfolding policies_from
-policies-more n trace i l =
-    let e : n - i ≡ suc (n - (i + 1)) = omega arith in
-    let next : 24 * i + 24 ≡ 24 * (i + 1) = omega arith in
-    ap (λ (k : ℕ). policies_from k trace (24 * i)) e
-    ∙ ap (λ (at : ℕ). leb (policy_at trace (24 * i)) 3 && policies_from (n - (i + 1)) trace at) next
+-- from record i on, by the records' indices
+pub policies-all : (n : ℕ) (trace : List ℕ) (i : ℕ)
+    → list_all (λ (k : ℕ). leb (read_le trace (24 * k + 7) 1) 3) (range_with_len i n) ≡ policies_from n trace (24 * i)
+unfolding policies_from record_at
+policies-all zero trace i = refl
+policies-all (suc n) trace i =
+    let next : 24 * (i + 1) ≡ 24 * i + 24 = omega arith in
+    ap (λ (b : Bool). leb (read_le trace (24 * i + 7) 1) 3 && b)
+    (policies-all n trace (i + 1) ∙ ap (λ (at : ℕ). policies_from n trace at) next)
 
 tells : (trace : List ℕ) → well_formed trace ≡ true → WellFormed trace
 unfolding well_formed

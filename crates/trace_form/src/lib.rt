@@ -11,16 +11,6 @@ use trace_record::RECORD_BYTES;
 pub fn well_formed(trace: &[u8]) -> bool
     ensures { result ≡ well_formed trace.now }
 {
-    if trace.len() % RECORD_BYTES != 0 {
-        return false;
-    }
-    let count = trace.len() / RECORD_BYTES;
-    let mut i: usize = 0;
-    while i < count {
-        if read_le(trace, RECORD_BYTES * i + 7, 1) > 3 {
-            return false;
-        }
-        i += 1;
-    }
-    true
+    trace.len() % RECORD_BYTES == 0
+        && (0..trace.len() / RECORD_BYTES).all(|i| read_le(trace, RECORD_BYTES * i + 7, 1) <= 3)
 }

@@ -1,9 +1,6 @@
 -- The policy byte and the policies give each other.
 -- Assumes nothing.
-use Prim.Native.Nat.{ℕ, zero, suc, ◌≤◌}
-use mathlib.Core.Bool.{Bool, true, false}
-use mathlib.Core.Path.{◌≡◌, refl}
-use native.Mathlib.Omega.{arith}
+use Rattle.std.proofs.Common.{ℕ, zero, suc, ◌≤◌, Bool, true, false, ◌≡◌, refl, arith}
 use Rattle.trace_policy.specs.Policy.{policy_of, vta_of, vma_of, PolicyByte}
 
 pub policy-byte : PolicyByte

@@ -3,7 +3,8 @@
 #![tactic(auto)]
 
 ghost use Rattle.std.specs.Prelude.{◌≡◌};
-ghost use Rattle.trace_reader.specs.Reader.{whole_at, next_at, place_after};
+ghost use Rattle.std.specs.Iterator.{YieldsFirst, item_count};
+ghost use Rattle.trace_reader.specs.Reader.{whole_at, next_at, place_after, records_left};
 
 use trace_record::{RECORD_BYTES, Record, record_at};
 
@@ -14,31 +15,22 @@ pub struct Reader<'a> {
     pub at: usize,
 }
 
-// What a reader gives: a whole record, or the end. A rest of under 24 bytes is no record.
-#[derive(Clone, Copy)]
-pub enum Next {
-    Whole(Record),
-    End,
-}
-
-// Whether a whole record stands at a place, in a trace of this length.
+// Whether a whole record stands at a place, in a trace of this length: a rest of under 24 bytes is no record.
 fn whole_at(len: usize, at: usize) -> bool
     ensures { result ≡ whole_at «len» at }
 {
-    if len < at {
-        return false;
-    }
-    RECORD_BYTES <= len - at
+    at <= len && RECORD_BYTES <= len - at
 }
 
-// What stands at a place: a record, or the end.
-pub fn next_at(trace: &[u8], at: usize) -> Next
+// What stands at a place: a whole record, or none at the end.
+pub fn next_at(trace: &[u8], at: usize) -> Option<Record>
     ensures { result ≡ next_at trace.now at }
 {
     if whole_at(trace.len(), at) {
-        return Next::Whole(record_at(trace, at));
+        Some(record_at(trace, at))
+    } else {
+        None
     }
-    Next::End
 }
 
 // The place after a call there: that of the next record, and at the end the same.
@@ -46,9 +38,10 @@ pub fn place_after(trace: &[u8], at: usize) -> usize
     ensures { result ≡ place_after trace.now at }
 {
     if whole_at(trace.len(), at) {
-        return at + RECORD_BYTES;
+        at + RECORD_BYTES
+    } else {
+        at
     }
-    at
 }
 
 // A reader at the start of a trace.
@@ -58,8 +51,8 @@ pub fn new_reader<'a>(trace: &'a [u8]) -> Reader<'a>
     Reader { trace, at: 0 }
 }
 
-// Gives the record at the reader's place, and moves on to the next one; at the end it gives the end, and stays.
-pub fn next_record<'s, 'a>(r: &'s mut Reader<'a>) -> Next
+// Gives the record at the reader's place, and moves on to the next one; at the end it gives none, and stays.
+pub fn next_record<'s, 'a>(r: &'s mut Reader<'a>) -> Option<Record>
     ensures { (result ≡ next_at r.old.trace.now r.old.at)
         × (r.new.trace ≡ r.old.trace)
         × (r.new.at ≡ place_after r.old.trace.now r.old.at) }
@@ -67,4 +60,17 @@ pub fn next_record<'s, 'a>(r: &'s mut Reader<'a>) -> Next
     let given = next_at(r.trace, r.at);
     r.at = place_after(r.trace, r.at);
     given
+}
+
+// As an iterator it gives the whole records from its place on, in order.
+impl<'a> Iterator for Reader<'a> {
+    type Item = Record;
+
+    ghost next_gives = { YieldsFirst (λ r. records_left r.trace.now r.at) };
+
+    ghost remaining = { item_count (λ r. records_left r.trace.now r.at) };
+
+    fn next(&mut self) -> Option<Record> {
+        next_record(self)
+    }
 }

@@ -1,7 +1,6 @@
 -- A record has 24 bytes.
 -- Assumes nothing.
-use mathlib.Core.Path.{◌≡◌, refl}
-use lib.ListN.{length}
+use Rattle.std.proofs.Common.{◌≡◌, refl, length}
 use Rattle.octets.specs.LittleEndian.{le_bytes}
 use Rattle.trace_record.specs.declared.Record.{Record}
 use Rattle.trace_record.specs.Record.{record_bytes}

@@ -1,12 +1,8 @@
 -- What stands at a place is the same record wherever its 24 bytes stand: at the start of a longer trace, or after another.
 -- Main results: `record-within`, `record-after`.
 -- Assumes nothing.
-use Prim.Native.Nat.{ℕ, ◌+◌, ◌<◌, ◌≤◌}
-use mathlib.Core.List.{List, ◌++◌}
-use mathlib.Core.Path.{◌≡◌}
-use native.Mathlib.Omega.{arith}
-use lib.ListN.{length, get_or, get_or-append}
-use lib.Seq.{get_or-append-add}
+use Rattle.std.proofs.Common.{ℕ, ◌+◌, ◌<◌, ◌≤◌, List, ◌++◌, ◌≡◌, arith, length, get_or, get_or-append-add}
+use lib.ListN.{get_or-append}
 use Rattle.octets.specs.LittleEndian.{read_le}
 use Rattle.octets.proofs.LittleEndian.{le_same}
 use Rattle.trace_record.specs.Record.{record_at}

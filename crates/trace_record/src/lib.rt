@@ -4,15 +4,18 @@
 ghost use Rattle.std.specs.Prelude.{◌≡◌, ◌+◌, ◌≤◌, length};
 ghost use Rattle.std.proofs.lemmas.List.Edits.{sets};
 ghost use Rattle.octets.specs.LittleEndian.{read_le};
+ghost use Rattle.refusal.specs.Refusal.{number_of};
 ghost use Rattle.trace_record.specs.Record.{record_at, record_bytes, too_large, write_number, written_into};
 
 use octets_le::{read_le, write_le};
 use octets_slice::put;
+use refusal::Refusal;
 
 // How many bytes a record has.
 pub const RECORD_BYTES: usize = 24;
 
 // The word, the settings without VLEN, the scalar and the answer of a call. `policy` is the policy byte; vstart is the one before the call.
+// Answer and policy are numbers: a trace may have bytes that no refusal and no policies have.
 #[derive(Clone, Copy)]
 pub struct Record {
     pub word: u32,
@@ -91,28 +94,16 @@ pub fn put_record(r: Record, s: &mut [u8], at: usize)
 fn too_large(r: Record) -> bool
     ensures { result ≡ too_large r }
 {
-    if r.sew > 255 {
-        return true;
-    }
-    if r.lmul > 255 {
-        return true;
-    }
-    if r.answer > 255 {
-        return true;
-    }
-    r.policy > 3
+    r.sew > 255 || r.lmul > 255 || r.answer > 255 || r.policy > 3
 }
 
 // Writes the record over a slice of 24 bytes. 14: another length, or a number that has no room; nothing is then written.
-pub fn write_record(r: Record, s: &mut [u8]) -> u32
-    ensures { (result ≡ write_number (length s.old) r) × (s.new ≡ written_into s.old r) }
+pub fn write_record(r: Record, s: &mut [u8]) -> Result<(), Refusal>
+    ensures { (number_of result ≡ write_number (length s.old) r) × (s.new ≡ written_into s.old r) }
 {
-    if s.len() != RECORD_BYTES {
-        return 14;
-    }
-    if too_large(r) {
-        return 14;
+    if s.len() != RECORD_BYTES || too_large(r) {
+        return Err(Refusal::BadTrace);
     }
     put_record(r, s, 0);
-    0
+    Ok(())
 }

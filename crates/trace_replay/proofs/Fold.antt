@@ -1,14 +1,10 @@
 -- Replay by one more record: what the record's answer decides; and how it ends.
 -- Assumes nothing.
-use Prim.Native.Nat.{ℕ, suc, ◌+◌, ◌-◌, ◌*◌, ◌<◌}
-use mathlib.Core.Bool.{true, false, cond}
-use mathlib.Core.List.{List}
-use mathlib.Core.Path.{◌≡◌, refl, sym, ap, ap₂, ◌∙◌}
-use native.Mathlib.Omega.{arith}
+use Rattle.std.proofs.Common.{ℕ, suc, ◌+◌, ◌-◌, ◌*◌, ◌<◌, true, false, cond, List, ◌≡◌, refl, sym, ap, ap₂, ◌∙◌, arith, Err}
 use Rattle.trace_record.specs.declared.Record.{Record}
 use Rattle.trace_record.specs.Record.{record_at, records_from, records}
 use Rattle.trace_form.specs.Form.{well_formed}
-use Rattle.trace_replay.specs.declared.Replayed.TheVariants.{Differs}
+use Rattle.trace_replay.specs.declared.Stopped.TheVariants.{Differs}
 use Rattle.trace_replay.specs.Replay.{called, agrees, after_record, Outcome, replay_from, replayed}
 
 -- of n records, those from i on
@@ -18,7 +14,7 @@ left vlen n trace i file = replay_from vlen (records_from (n - i) trace (24 * i)
 module _ (vlen n : ℕ) (trace : List ℕ) (i : ℕ) (file : List ℕ) (r : Record) (l : i < n) (e : r ≡ record_at trace (24 * i)) where
   -- what the test of the record's answer decides
   more : left vlen n trace i file
-      ≡ cond (agrees vlen r file) (left vlen n trace (i + 1) (called vlen r file)) (record { answer = Differs i; file = file })
+      ≡ cond (agrees vlen r file) (left vlen n trace (i + 1) (called vlen r file)) (record { answer = Err (Differs i); file = file })
   unfolding records_from replay_from
   more =
       let others : n - i ≡ suc (n - (i + 1)) = omega arith in
@@ -26,7 +22,7 @@ module _ (vlen n : ℕ) (trace : List ℕ) (i : ℕ) (file : List ℕ) (r : Reco
       ap (λ (k : ℕ). replay_from vlen (records_from k trace (24 * i)) i file) others
       ∙ ap₂
       (λ (q : Record) (at : ℕ).
-      cond (agrees vlen q file) (replay_from vlen (records_from (n - (i + 1)) trace at) (i + 1) (called vlen q file)) (record { answer = Differs i; file = file }))
+      cond (agrees vlen q file) (replay_from vlen (records_from (n - (i + 1)) trace at) (i + 1) (called vlen q file)) (record { answer = Err (Differs i); file = file }))
       (sym e) next
 
   -- its answer is ours: the records after it are left
@@ -34,7 +30,7 @@ module _ (vlen n : ℕ) (trace : List ℕ) (i : ℕ) (file : List ℕ) (r : Reco
   same_more h = more ∙ rw h refl
 
   -- its answer is another: that is all
-  pub differs_more : agrees vlen r file ≡ false → left vlen n trace i file ≡ record { answer = Differs i; file = after_record vlen r file }
+  pub differs_more : agrees vlen r file ≡ false → left vlen n trace i file ≡ record { answer = Err (Differs i); file = after_record vlen r file }
   differs_more h = more ∙ rw h refl
 
 -- the replay of a well-formed trace ends as its records do

@@ -1,14 +1,8 @@
 -- Two parts that are done, one after the other, are the whole.
 -- Assumes nothing.
-use Prim.Native.Nat.{ℕ, zero, suc, ◌+◌, ◌-◌, ◌*◌, ◌<◌, ◌≤◌}
-use mathlib.Core.List.{List, ◌++◌}
-use mathlib.Core.Path.{◌≡◌, refl, sym, ap, ap₂, subst, ◌∙◌}
+use Rattle.std.proofs.Common.{ℕ, zero, suc, ◌+◌, ◌-◌, ◌*◌, ◌<◌, ◌≤◌, List, ◌++◌, ◌≡◌, refl, sym, ap, ap₂, subst, ◌∙◌, add-zero, add-suc, arith, length, length-append, Ok}
 use native.Mathlib.Decide.{dec_lt}
-use native.Mathlib.Nat.{add-zero, add-suc}
-use native.Mathlib.Omega.{arith}
-use lib.ListN.{length, length-append}
 use Rattle.trace_record.proofs.Same.{record-within, record-after}
-use Rattle.trace_replay.specs.declared.Replayed.TheVariants.{Done}
 use Rattle.trace_replay.specs.Replay.{called, Outcome}
 use Rattle.trace_replay.specs.Meaning.{record_of, file_after, IsOurs, Means, DoneInParts}
 use Rattle.trace_replay.proofs.Meaning.{replay-means, one-meaning}
@@ -41,13 +35,13 @@ module _ (s t : List ℕ) (m : ℕ) (e : length s ≡ 24 * m) where
 
 pub done-in-parts : DoneInParts
 done-in-parts vlen m n file middle last s t p q =
-    sym (one-meaning vlen file (s ++ t) (record { answer = Done (m + n); file = last })
+    sym (one-meaning vlen file (s ++ t) (record { answer = Ok (m + n); file = last })
     (record { whole = omega (arith, both); policies = λ i l. policies i (dec_lt i m) (omega (arith, both)) }, omega (arith, both), (λ i l. ours i (dec_lt i m) l), end))
   where
-    one : Means vlen file s (Done m) middle
+    one : Means vlen file s (Ok m) middle
     one = subst (λ (o : Outcome). Means vlen file s o.answer o.file) p (replay-means vlen file s)
 
-    two : Means vlen middle t (Done n) last
+    two : Means vlen middle t (Ok n) last
     two = subst (λ (o : Outcome). Means vlen middle t o.answer o.file) q (replay-means vlen middle t)
 
     long : length s ≡ 24 * m

@@ -1,12 +1,11 @@
 -- What replay's answers mean, for readers: by the executor's calls one after the other.
 -- Assumes nothing.
-use Rattle.std.specs.Prelude.{ℕ, zero, suc, ◌+◌, ◌*◌, ◌/◌, ◌<◌, List, ◌++◌, ◌≡◌, length}
+use Rattle.std.specs.Prelude.{ℕ, zero, suc, ◌+◌, ◌*◌, ◌/◌, ◌<◌, List, ◌++◌, ◌≡◌, length, Ok, Err}
 use Rattle.trace_record.specs.declared.Record.{Record}
 use Rattle.trace_record.specs.Record.{record_at}
 use Rattle.trace_form.specs.Form.{WellFormed}
-use Rattle.trace_replay.specs.declared.Replayed.{Replayed}
-use Rattle.trace_replay.specs.declared.Replayed.TheVariants.{Done, Differs, Refused}
-use Rattle.trace_replay.specs.Replay.{ours, called, Outcome, replayed}
+use Rattle.trace_replay.specs.declared.Stopped.TheVariants.{Differs, Refused}
+use Rattle.trace_replay.specs.Replay.{ours, called, Replayed, Outcome, replayed}
 
 -- how many whole records a trace has, and the one with an index
 abbrev pub count : List ℕ → ℕ
@@ -29,11 +28,11 @@ OursBefore vlen file trace n = (i : ℕ) → i < n → IsOurs vlen file trace i
 
 -- what an answer with a file means
 abbrev pub Means : ℕ → List ℕ → List ℕ → Replayed → List ℕ → Type 0
-Means vlen file trace (Done n) file' =
+Means vlen file trace (Ok n) file' =
     WellFormed trace × (n ≡ count trace) × OursBefore vlen file trace n × (file' ≡ file_after vlen trace n file)
-Means vlen file trace (Differs i) file' =
+Means vlen file trace (Err (Differs i)) file' =
     WellFormed trace × (i < count trace) × OursBefore vlen file trace i × (IsOurs vlen file trace i → ⊥) × (file' ≡ file_after vlen trace i file)
-Means vlen file trace Refused file' = (WellFormed trace → ⊥) × (file' ≡ file)
+Means vlen file trace (Err Refused) file' = (WellFormed trace → ⊥) × (file' ≡ file)
 
 -- replay's answer and file mean that
 abbrev pub ReplayMeans : Type 0
@@ -46,6 +45,6 @@ OneMeaning = (vlen : ℕ) (file trace : List ℕ) (o : Outcome) → Means vlen f
 -- two parts, both done, are the whole
 abbrev pub DoneInParts : Type 0
 DoneInParts = (vlen m n : ℕ) (file middle last s t : List ℕ)
-    → replayed vlen file s ≡ record { answer = Done m; file = middle }
-    → replayed vlen middle t ≡ record { answer = Done n; file = last }
-    → replayed vlen file (s ++ t) ≡ record { answer = Done (m + n); file = last }
+    → replayed vlen file s ≡ record { answer = Ok m; file = middle }
+    → replayed vlen middle t ≡ record { answer = Ok n; file = last }
+    → replayed vlen file (s ++ t) ≡ record { answer = Ok (m + n); file = last }

@@ -4,17 +4,16 @@
 ghost use Rattle.std.specs.Prelude.{◌≡◌};
 ghost use Rattle.trace_replay.specs.Replay.{settings_of, agrees, after_record, replayed, number_of, index_of};
 
+use refusal::{Refusal, number_of};
 use trace_form::well_formed;
 use trace_record::{RECORD_BYTES, Record, record_at};
 use vector_execute::execute::execute;
 use vector_refusal::refusal;
 use vector_registers::settings::Settings;
 
-// How a replay ends: every answer is ours, with the number of records; the index of the first record whose answer is not; or the
-// trace is refused, and nothing ran.
-#[derive(Clone, Copy)]
-pub enum Replayed {
-    Done(usize),
+// Why a replay is not done: the answer of the record with this index, the first such, is not ours; or the trace is refused, and nothing ran.
+#[derive(Clone, Copy, PartialEq, Eq)]
+pub enum Stopped {
     Differs(usize),
     Refused,
 }
@@ -38,57 +37,40 @@ fn settings_of(vlen: u32, r: Record) -> Settings
 fn replay_record(vlen: u32, r: Record, file: &mut [u8]) -> bool
     ensures { (result ≡ agrees vlen r file.old) × (file.new ≡ after_record vlen r file.old) }
 {
-    let s = settings_of(vlen, r);
-    if refusal(file.len(), r.word, s) != r.answer {
+    let mut s = settings_of(vlen, r);
+    let ours = number_of(refusal(file.len(), r.word, s));
+    if ours != r.answer {
         return false;
     }
-    execute(r.word, s, r.scalar, file);
+    let _ = execute(r.word, &mut s, r.scalar, file);
     true
 }
 
-// Replays a trace, up to the first record whose answer is not ours.
-pub fn replay(vlen: u32, file: &mut [u8], trace: &[u8]) -> Replayed
+// Replays a trace, up to the first record whose answer is not ours, and gives the number of records.
+pub fn replay(vlen: u32, file: &mut [u8], trace: &[u8]) -> Result<usize, Stopped>
     ensures { (result ≡ (replayed vlen file.old trace.now).answer)
         × (file.new ≡ (replayed vlen file.old trace.now).file) }
 {
     if !well_formed(trace) {
-        return Replayed::Refused;
+        return Err(Stopped::Refused);
     }
     let count = trace.len() / RECORD_BYTES;
-    let mut i: usize = 0;
-    while i < count {
+    for i in 0..count {
         if !replay_record(vlen, record_at(trace, RECORD_BYTES * i), file) {
-            return Replayed::Differs(i);
+            return Err(Stopped::Differs(i));
         }
-        i += 1;
     }
-    Replayed::Done(count)
+    Ok(count)
 }
 
-// ---- what C gets
-
-// The number, and the index: of the record that differs, the number of records when done, 0 on a refusal.
-#[derive(Clone, Copy)]
-pub struct Answer {
-    pub number: u32,
-    pub index: usize,
-}
-
-pub fn answer_of(r: Replayed) -> Answer
-    ensures { (result.number ≡ number_of r) × (result.index ≡ index_of r) }
+// The number and the index that C gets: the index of the record that differs, the number of records when done, 0 on a refusal. A
+// difference is 256, which is no refusal's number and no record's answer.
+pub fn answer_of(r: Result<usize, Stopped>) -> (u32, usize)
+    ensures { (result.0 ≡ number_of r) × (result.1 ≡ index_of r) }
 {
     match r {
-        Replayed::Done(count) => Answer {
-            number: 0,
-            index: count,
-        },
-        Replayed::Differs(i) => Answer {
-            number: 256,
-            index: i,
-        },
-        Replayed::Refused => Answer {
-            number: 14,
-            index: 0,
-        },
+        Ok(count) => (0, count),
+        Err(Stopped::Differs(i)) => (256, i),
+        Err(Stopped::Refused) => (Refusal::BadTrace.number(), 0),
     }
 }

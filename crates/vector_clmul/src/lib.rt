@@ -4,82 +4,89 @@
 
 ghost use Rattle.std.specs.Prelude.{true, ◌≡◌};
 ghost use Rattle.vector_registers.specs.Settings.{sew_allowed};
-ghost use Rattle.vector_clmul.specs.Carryless.{element, scalar_of, multiplier_of, carryless_result, carryless_step, carryless};
 
 use octets_le::{read_le, write_le};
-use vector_element::element::{active, element_at};
+use vector_element::element::Operands;
 use vector_product::clmul::{Half, clmul64, half_of, low_bits};
-use vector_registers::settings::Settings;
-use vector_word::Fields;
 
-// The multiplier of an element: vs1's element, or one number for all elements.
-#[derive(Clone, Copy)]
+// The multiplier of an element: vs1's element, or one number for all elements. No Option: `None` would not say that it is vs1's element.
+#[derive(Clone, Copy, PartialEq, Eq)]
 pub enum Multiplier {
     Vs1,
     Scalar(u64),
 }
 
-// Element i of a register group.
-fn element(s: Settings, register: u32, i: u32, file: &[u8]) -> u64
-    requires { sew_allowed s.sew ≡ true }
-    ensures { result ≡ element s file.now register i }
-{
-    let at = element_at(s.vlen, s.sew, register, i);
-    read_le(file, at, (s.sew / 8) as usize)
+// The elements of a word's groups: its operands, with an allowed SEW.
+#[derive(Clone, Copy)]
+pub struct Elements {
+    pub operands: Operands,
+    pub ghost sew_is_allowed: { sew_allowed operands.settings.sew ≡ true },
 }
 
-// The multiplier of element i.
-fn multiplier_of(m: Multiplier, f: Fields, s: Settings, i: u32, file: &[u8]) -> u64
-    requires { sew_allowed s.sew ≡ true }
-    ensures { result ≡ multiplier_of m f s file.now i }
-{
-    match m {
-        Multiplier::Vs1 => element(s, f.vs1, i, file),
-        Multiplier::Scalar(x) => x,
+impl Elements {
+    ghost use Rattle.vector_clmul.specs.Carryless.{element, scalar_of, multiplier_of, carryless_result, carryless_step, carryless};
+
+    // Element i of a register group.
+    fn element(self, register: u32, i: u32, file: &[u8]) -> u64
+        ensures { result ≡ element self.operands.settings file.now register i }
+    {
+        let at = self.operands.element_at(register, i);
+        read_le(file, at, (self.operands.settings.sew / 8) as usize)
     }
-}
 
-// Element i's result.
-fn carryless_result(which: Half, m: Multiplier, f: Fields, s: Settings, i: u32, file: &[u8]) -> u64
-    requires { sew_allowed s.sew ≡ true }
-    ensures { result ≡ carryless_result which m f s file.now i }
-{
-    let p = clmul64(multiplier_of(m, f, s, i, file), element(s, f.vs2, i, file));
-    half_of(which, s.sew as u64, p)
-}
-
-// Element i is written, if it is active.
-fn carryless_step(which: Half, m: Multiplier, f: Fields, s: Settings, i: u32, file: &mut [u8])
-    requires { sew_allowed s.sew ≡ true }
-    ensures { file.new ≡ carryless_step which m f s i file.old }
-{
-    if active(f, i, file) {
-        let v = carryless_result(which, m, f, s, i, file);
-        let at = element_at(s.vlen, s.sew, f.vd, i);
-        write_le(file, at, (s.sew / 8) as usize, v);
+    // The multiplier of element i.
+    fn multiplier_of(self, m: Multiplier, i: u32, file: &[u8]) -> u64
+        ensures { result ≡ multiplier_of m self.operands.fields self.operands.settings file.now i }
+    {
+        match m {
+            Multiplier::Vs1 => self.element(self.operands.fields.vs1, i, file),
+            Multiplier::Scalar(x) => x,
+        }
     }
-}
 
-// Elements vstart to vl - 1.
-pub fn carryless(which: Half, m: Multiplier, f: Fields, s: Settings, file: &mut [u8])
-    requires { sew_allowed s.sew ≡ true }
-    ensures { file.new ≡ carryless which m f s file.old }
-{
-    let to = s.vl;
-    let mut i = s.vstart;
-    while i < to {
-        carryless_step(which, m, f, s, i, file);
-        i += 1;
+    // Element i's result.
+    #[tactic(auto, unfolding(crate::specs::Carryless::carryless_result))]
+    fn carryless_result(self, which: Half, m: Multiplier, i: u32, file: &[u8]) -> u64
+        ensures { result ≡ carryless_result which m self.operands.fields self.operands.settings file.now i }
+    {
+        let Operands { fields, settings } = self.operands;
+        let p = clmul64(
+            self.multiplier_of(m, i, file),
+            self.element(fields.vs2, i, file),
+        );
+        half_of(which, u64::from(settings.sew), p)
     }
-}
 
-// The scalar modulo 2^SEW; if rs1 is field 0 it counts as zero.
-pub fn scalar_of(f: Fields, s: Settings, scalar: u64) -> u64
-    requires { sew_allowed s.sew ≡ true }
-    ensures { result ≡ scalar_of f s scalar }
-{
-    if f.vs1 == 0 {
-        return 0;
+    // Element i is written, if it is active.
+    #[tactic(auto, unfolding(crate::specs::Carryless::carryless_step))]
+    fn carryless_step(self, which: Half, m: Multiplier, i: u32, file: &mut [u8])
+        ensures { file.new ≡ carryless_step which m self.operands.fields self.operands.settings i file.old }
+    {
+        let Operands { fields, settings } = self.operands;
+        if self.operands.active(i, file) {
+            let v = self.carryless_result(which, m, i, file);
+            let at = self.operands.element_at(fields.vd, i);
+            write_le(file, at, (settings.sew / 8) as usize, v);
+        }
     }
-    low_bits(s.sew as u64, scalar)
+
+    // Elements vstart to vl - 1.
+    pub fn carryless(self, which: Half, m: Multiplier, file: &mut [u8])
+        ensures { file.new ≡ carryless which m self.operands.fields self.operands.settings file.old }
+    {
+        let s = self.operands.settings;
+        for i in s.vstart..s.vl {
+            self.carryless_step(which, m, i, file);
+        }
+    }
+
+    // The scalar modulo 2^SEW; if rs1 is field 0 it counts as zero.
+    pub fn scalar_of(self, scalar: u64) -> u64
+        ensures { result ≡ scalar_of self.operands.fields self.operands.settings scalar }
+    {
+        match self.operands.fields.vs1 {
+            0 => 0,
+            _ => low_bits(u64::from(self.operands.settings.sew), scalar),
+        }
+    }
 }

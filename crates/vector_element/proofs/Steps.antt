@@ -1,10 +1,7 @@
 -- A word's steps as a loop sees them: what is left from i on (`turn`, `none_left`). And what each step keeps, all of them keep
 -- (`steps-keep`).
 -- Assumes nothing.
-use mathlib.Core.Path.{◌≡◌, sym, ap, ◌∙◌}
-use mathlib.Core.List.{List}
-use Prim.Native.Nat.{ℕ, zero, suc, ◌+◌, ◌-◌, ◌<◌, ◌≤◌}
-use native.Mathlib.Omega.{arith}
+use Rattle.std.proofs.Common.{◌≡◌, sym, ap, ◌∙◌, List, ℕ, zero, suc, ◌+◌, ◌-◌, ◌<◌, ◌≤◌, arith}
 use Rattle.vector_element.specs.Steps.{steps}
 
 module _ (S : ℕ → List ℕ → List ℕ) where

@@ -1,23 +1,15 @@
 -- What it tells of a word and its settings that the number is 0: the word is one of the eight, and none of the refusals applies;
 -- and what a call leaves, by its number.
 -- Assumes nothing.
-use mathlib.Core.Bool.{true, false, cond, not, ◌||◌}
-use mathlib.Core.Path.{◌≡◌, refl, subst}
-use Prim.Native.Nat.{ℕ, ◌<◌}
-use mathlib.Core.List.{List}
-use native.Mathlib.Nat.{suc-ne-zero, zero-lt-suc}
-use native.Mathlib.Omega.{arith}
-use borrow.Author.Tests.{eq-eqb, ne_eqb, not-false}
-use lib.Dec.{eqb, ltb}
-use lib.ListN.{length}
+use Rattle.std.proofs.Common.{◌≡◌, ℕ, ◌<◌, true, false, cond, not, ◌||◌, eqb, ltb, List, length, Option, Some, refl, subst, arith, zero-lt-suc, eq-eqb, ne_eqb}
+use borrow.Author.Tests.{not-false}
 use Rattle.vector_registers.specs.declared.settings.Settings.{Settings}
 use Rattle.vector_word.specs.declared.Fields.{Fields}
 use Rattle.vector_kind.specs.declared.Kind.{Kind}
-use Rattle.vector_word.specs.declared.Word.{Word}
-use Rattle.vector_word.specs.declared.Word.TheVariants.{Known, Unknown}
+use Rattle.vector_word.specs.declared.Instruction.{Instruction}
 use Rattle.vector_registers.specs.Settings.{applies1, applies3, sew_allowed, lmul_allowed, vlmax}
 use Rattle.vector_refusal.specs.Refusal.{applies4, applies5, applies6, applies7, applies8, refusal_of_known, refusal_of_word, refusal_of}
-use Rattle.vector_word.specs.Word.{decode}
+use Rattle.vector_word.specs.Word.{decode, instruction}
 use Rattle.vector_word.proofs.Tests.{or-false, passed, passed-by, pick-here, pick_next}
 use Rattle.vector_execute.specs.Execute.{done, executed, vstart_after}
 
@@ -50,24 +42,12 @@ known file_length k f s h1 e =
     let p8 = passed (applies8 k f) 8 0 (zero-lt-suc 7) p7.1 in
     record { not1 = h1; not3 = p.0; not4 = p.1; not5 = p.2; not6 = p.3; not7 = p7.0; not8 = p8.0 }
 
-pub admitted : (file_length word : ℕ) (s : Settings) → refusal_of file_length word s ≡ 0
-    → (k : Kind) × (f : Fields) × (decode word ≡ Known k f) × Admitted file_length k f s
-unfolding refusal_of
-admitted file_length word s e =
-    let p1 = passed (applies1 file_length s.vlen) 1 (refusal_of_word (decode word) s) (zero-lt-suc 0) e in
-    go (decode word) refl p1.0 p1.1
-  where
-    go : (w : Word) → decode word ≡ w → applies1 file_length s.vlen ≡ false → refusal_of_word w s ≡ 0
-        → (k : Kind) × (f : Fields) × (decode word ≡ Known k f) × Admitted file_length k f s
-    go Unknown d h1 r = absurd (suc-ne-zero 1 r)
-    go (Known k f) d h1 r = (k, f, d, known file_length k f s h1 r)
-
--- the same of a word whose kind and fields are known
-pub admitted-as : (file_length word : ℕ) (s : Settings) {k : Kind} {f : Fields} → decode word ≡ Known k f → refusal_of file_length word s ≡ 0 → Admitted file_length k f s
+-- of a word whose number is 0
+pub admitted-as : (file_length word : ℕ) (s : Settings) {k : Kind} {f : Fields} → decode word ≡ Some (instruction k f) → refusal_of file_length word s ≡ 0 → Admitted file_length k f s
 unfolding refusal_of
 admitted-as file_length word s {k} {f} d e =
     let p1 = passed (applies1 file_length s.vlen) 1 (refusal_of_word (decode word) s) (zero-lt-suc 0) e in
-    known file_length k f s p1.0 (subst (λ (w : Word). refusal_of_word w s ≡ 0) d p1.1)
+    known file_length k f s p1.0 (subst (λ (w : Option Instruction). refusal_of_word w s ≡ 0) d p1.1)
 
 pub sew-allowed : (s : Settings) → applies3 s ≡ false → sew_allowed s.sew ≡ true
 sew-allowed s h =

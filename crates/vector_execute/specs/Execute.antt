@@ -1,6 +1,6 @@
 -- Document 01, "Execution", with document 02's Ask 5: what a call does to the register file and to vstart.
 -- Assumes nothing.
-use Rattle.std.specs.Prelude.{ℕ, cond, List, eqb, length}
+use Rattle.std.specs.Prelude.{ℕ, cond, List, Option, Some, None, eqb, length}
 use Rattle.vector_product.specs.declared.clmul.Half.TheVariants.{Low, High}
 use Rattle.vector_clmul.specs.declared.Multiplier.TheVariants.{Vs1, Scalar}
 use Rattle.vector_ghash.specs.declared.GhashMultiplier.TheVariants.{YXorX, YAlone}
@@ -8,8 +8,7 @@ use Rattle.vector_registers.specs.declared.settings.Settings.{Settings}
 use Rattle.vector_kind.specs.declared.Kind.{Kind}
 use Rattle.vector_kind.specs.declared.Kind.TheVariants.{VclmulVv, VclmulVx, VclmulhVv, VclmulhVx, VghshVv, VghshVs, VgmulVv, VgmulVs}
 use Rattle.vector_word.specs.declared.Fields.{Fields}
-use Rattle.vector_word.specs.declared.Word.{Word}
-use Rattle.vector_word.specs.declared.Word.TheVariants.{Known, Unknown}
+use Rattle.vector_word.specs.declared.Instruction.{Instruction}
 use Rattle.vector_clmul.specs.Carryless.{scalar_of, carryless}
 use Rattle.vector_ghash.specs.GhashWords.{ghash_vv, ghash_vs}
 use Rattle.vector_fill.specs.Fill.{filled}
@@ -28,9 +27,9 @@ done_known VgmulVv f s scalar file = ghash_vv YAlone f s file
 done_known VgmulVs f s scalar file = ghash_vs YAlone f s file
 
 -- a decoded word: the active ones, then what the policies fill
-abbrev pub done : Word → Settings → ℕ → List ℕ → List ℕ
-done Unknown s scalar file = file
-done (Known k f) s scalar file = filled f s (done_known k f s scalar file)
+abbrev pub done : Option Instruction → Settings → ℕ → List ℕ → List ℕ
+done None s scalar file = file
+done (Some i) s scalar file = filled i.fields s (done_known i.kind i.fields s scalar file)
 
 -- the file after a call; a refusal leaves it as it was
 unfoldable pub executed : ℕ → Settings → ℕ → List ℕ → List ℕ

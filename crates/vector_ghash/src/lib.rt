@@ -2,102 +2,91 @@
 // each reads its sources before it is written.
 #![tactic(auto)]
 
-ghost use Rattle.std.specs.Prelude.{◌≡◌, ℕ};
+ghost use Rattle.std.specs.Prelude.{◌≡◌};
 ghost use Rattle.ghash_block.specs.Block.{value_of, key_of};
-ghost use Rattle.ghash_tables.specs.Table.{TableOf};
 ghost use Rattle.vector_ghash.specs.GhashWords.{group, multiplier_of, vv_step, vs_step, ghash_vv, ghash_vs};
 
 use ghash_block::block::{Block, Key};
 use ghash_bytes::{block_at, put_block};
 use ghash_fast::product_fast;
-use ghash_tables::{TABLES, fill_tables};
-use vector_element::element::block_place;
-use vector_registers::settings::Settings;
-use vector_word::Fields;
+use ghash_tables::{TABLES, Tables};
+use vector_element::element::Operands;
 
 // The multiplier, of which source 002 calls H the multiplicand: Y xor X in vghsh, Y in vgmul.
-#[derive(Clone, Copy)]
+#[derive(Clone, Copy, PartialEq, Eq)]
 pub enum GhashMultiplier {
     YXorX,
     YAlone,
 }
 
 // Group i of 128 bits of a register group.
-fn group(s: Settings, register: u32, i: u32, file: &[u8]) -> Block
-    ensures { value_of result ≡ group s file.now register i }
+fn group(operands: Operands, register: u32, i: u32, file: &[u8]) -> Block
+    ensures { value_of result ≡ group operands.settings file.now register i }
 {
-    block_at(file, block_place(s.vlen, register, i))
+    block_at(file, operands.block_place(register, i))
 }
 
-// Group i of a register group as a key.
-fn key_in(s: Settings, register: u32, i: u32, file: &[u8]) -> Key
-    ensures { key_of result ≡ group s file.now register i }
+// The key in group i of vs2.
+fn key_in(operands: Operands, i: u32, file: &[u8]) -> Key
+    ensures { key_of result ≡ group operands.settings file.now operands.fields.vs2 i }
 {
-    let h = group(s, register, i, file);
-    Key::new(h.0, h.1)
+    Key::from(group(operands, operands.fields.vs2, i, file))
 }
 
 // The multiplier of group i.
-fn multiplier_of(m: GhashMultiplier, f: Fields, s: Settings, i: u32, file: &[u8]) -> Block
-    ensures { value_of result ≡ multiplier_of m f s file.now i }
+fn multiplier_of(m: GhashMultiplier, operands: Operands, i: u32, file: &[u8]) -> Block
+    ensures { value_of result ≡ multiplier_of m operands.fields operands.settings file.now i }
 {
+    let y = group(operands, operands.fields.vd, i, file);
     match m {
-        GhashMultiplier::YXorX => {
-            let y = group(s, f.vd, i, file);
-            let x = group(s, f.vs1, i, file);
-            y.xor(x)
-        }
-        GhashMultiplier::YAlone => group(s, f.vd, i, file),
+        GhashMultiplier::YXorX => y.xor(group(operands, operands.fields.vs1, i, file)),
+        GhashMultiplier::YAlone => y,
     }
 }
 
 // Group i with the key whose tables are given.
-fn vs_step(t: &[u64; TABLES], m: GhashMultiplier, f: Fields, s: Settings, i: u32, file: &mut [u8])
-    ensures { (h : ℕ) → TableOf h t.now → file.new ≡ vs_step h m f s i file.old }
+#[tactic(auto, unfolding(crate::specs::GhashWords::vs_step))]
+fn vs_step(key: Tables, m: GhashMultiplier, operands: Operands, i: u32, file: &mut [u8])
+    ensures { file.new ≡ vs_step (key_of key.entry.key) m operands.fields operands.settings i file.old }
 {
-    let z = product_fast(t, multiplier_of(m, f, s, i, file));
-    put_block(file, block_place(s.vlen, f.vd, i), z);
+    let z = product_fast(key.numbers, multiplier_of(m, operands, i, file));
+    put_block(file, operands.block_place(operands.fields.vd, i), z);
 }
 
 // Group i with the key in group i of vs2, whose tables are filled here.
+#[tactic(auto, unfolding(crate::specs::GhashWords::vv_step, crate::specs::GhashWords::vs_step))]
 fn vv_step(
-    t: &mut [u64; TABLES],
+    numbers: &mut [u64; TABLES],
     m: GhashMultiplier,
-    f: Fields,
-    s: Settings,
+    operands: Operands,
     i: u32,
     file: &mut [u8],
 )
-    ensures { file.new ≡ vv_step m f s i file.old }
+    ensures { file.new ≡ vv_step m operands.fields operands.settings i file.old }
 {
-    fill_tables(t, key_in(s, f.vs2, i, file));
-    vs_step(t, m, f, s, i, file);
+    let key = Tables::fill(key_in(operands, i, file), numbers);
+    vs_step(key, m, operands, i, file);
 }
 
 // Groups vstart/4 to vl/4 - 1, each with a key of its own.
-pub fn ghash_vv(m: GhashMultiplier, f: Fields, s: Settings, file: &mut [u8])
-    ensures { file.new ≡ ghash_vv m f s file.old }
+pub fn ghash_vv(m: GhashMultiplier, operands: Operands, file: &mut [u8])
+    ensures { file.new ≡ ghash_vv m operands.fields operands.settings file.old }
 {
-    let mut t = [0u64; TABLES];
-    let to = s.vl / 4;
-    let mut i = s.vstart / 4;
-    while i < to {
-        vv_step(&mut t, m, f, s, i, file);
-        i += 1;
+    let mut numbers = [0u64; TABLES];
+    let s = operands.settings;
+    for i in s.vstart / 4..s.vl / 4 {
+        vv_step(&mut numbers, m, operands, i, file);
     }
 }
 
 // The same groups, with one key, which is read before any write.
-pub fn ghash_vs(m: GhashMultiplier, f: Fields, s: Settings, file: &mut [u8])
-    ensures { file.new ≡ ghash_vs m f s file.old }
+pub fn ghash_vs(m: GhashMultiplier, operands: Operands, file: &mut [u8])
+    ensures { file.new ≡ ghash_vs m operands.fields operands.settings file.old }
 {
-    let h = key_in(s, f.vs2, 0, file);
-    let mut t = [0u64; TABLES];
-    fill_tables(&mut t, h);
-    let to = s.vl / 4;
-    let mut i = s.vstart / 4;
-    while i < to {
-        vs_step(&t, m, f, s, i, file);
-        i += 1;
+    let mut numbers = [0u64; TABLES];
+    let key = Tables::fill(key_in(operands, 0, file), &mut numbers);
+    let s = operands.settings;
+    for i in s.vstart / 4..s.vl / 4 {
+        vs_step(key, m, operands, i, file);
     }
 }

@@ -1,6 +1,8 @@
 -- What tells the eight kinds of word apart beside their encoding, as one table with a row a kind. Refusals and execution ask it.
 -- Assumes nothing.
-use Rattle.std.specs.Prelude.{ℕ, Bool, true, false}
+use Rattle.std.specs.Prelude.{ℕ, Bool, true, false, cond, List, [], ◌∷◌, eqb, Result, Ok, Err}
+use Rattle.refusal.specs.declared.Refusal.{Refusal}
+use Rattle.refusal.specs.declared.Refusal.TheVariants.{NotAWord}
 use Rattle.vector_kind.specs.declared.Kind.{Kind}
 use Rattle.vector_kind.specs.declared.Kind.TheVariants.{VclmulVv, VclmulVx, VclmulhVv, VclmulhVx, VghshVv, VghshVs, VgmulVv, VgmulVs}
 use Rattle.vector_kind.specs.declared.Operation.{Operation}
@@ -65,3 +67,14 @@ kind_number VghshVv = 4
 kind_number VghshVs = 5
 kind_number VgmulVv = 6
 kind_number VgmulVs = 7
+
+abbrev pub kinds : List Kind
+kinds = VclmulVv ∷ VclmulVx ∷ VclmulhVv ∷ VclmulhVx ∷ VghshVv ∷ VghshVs ∷ VgmulVv ∷ VgmulVs ∷ []
+
+-- the one of these kinds that has this number
+abbrev pub numbered_among : List Kind → ℕ → Result Kind Refusal
+numbered_among [] n = Err NotAWord
+numbered_among (k ∷ ks) n = cond (eqb n (kind_number k)) (Ok k) (numbered_among ks n)
+
+abbrev pub kind_numbered : ℕ → Result Kind Refusal
+kind_numbered n = numbered_among kinds n

@@ -1,16 +1,10 @@
 -- How long a text and its parts are: a text has at most 30 bytes (`texts-fit`). Assumes nothing.
-use mathlib.Core.Bool.{Bool, true, false, cond}
-use mathlib.Core.List.{List, [], ◌∷◌, ◌++◌}
-use Prim.Native.Nat.{ℕ, ◌/◌, ◌%◌, ◌≤◌}
-use native.Mathlib.Omega.{arith}
-use lib.Dec.{eqb, ltb}
-use lib.ListN.{length, length-append}
+use Rattle.std.proofs.Common.{Bool, true, false, cond, List, [], ◌∷◌, ◌++◌, ℕ, ◌/◌, ◌%◌, ◌≤◌, arith, eqb, ltb, length, length-append, Option, Some, None}
 use Rattle.vector_kind.specs.declared.Kind.{Kind}
 use Rattle.vector_kind.specs.declared.Kind.TheVariants.{VclmulVv, VclmulVx, VclmulhVv, VclmulhVx, VghshVv, VghshVs, VgmulVv, VgmulVs}
 use Rattle.vector_word.specs.declared.Fields.{Fields}
-use Rattle.vector_word.specs.declared.Word.TheVariants.{Known, Unknown}
 use Rattle.vector_listing.specs.declared.Third.{Third}
-use Rattle.vector_listing.specs.declared.Third.TheVariants.{Vs1, Rs1, Nothing}
+use Rattle.vector_listing.specs.declared.Third.TheVariants.{Vs1, Rs1}
 use Rattle.vector_listing.specs.Listing.{TextsFit}
 use Rattle.vector_listing.specs.Text.{ascii, mnemonic, digit, decimal, third_of, third, mask, text}
 
@@ -32,10 +26,10 @@ picked-length false xs ys n hx hy = hy
 pub decimal-length : (n : ℕ) → length (decimal n) ≤ 2
 decimal-length n = picked-length (ltb n 10) (digit n ∷ []) (digit (n / 10) ∷ digit (n % 10) ∷ []) 2 (omega arith) (omega arith)
 
-pub third-length : (t : Third) (n : ℕ) → length (third t n) ≤ 5
-third-length Vs1 n = omega (arith, decimal-length n)
-third-length Rs1 n = omega (arith, decimal-length n)
-third-length Nothing n = omega arith
+pub third-length : (t : Option Third) (n : ℕ) → length (third t n) ≤ 5
+third-length (Some Vs1) n = omega (arith, decimal-length n)
+third-length (Some Rs1) n = omega (arith, decimal-length n)
+third-length None n = omega arith
 
 mask-length : (vm : ℕ) → length (mask vm) ≤ 6
 mask-length vm = picked-length (eqb vm 0) (ascii ", v0.t") [] 6 (omega arith) (omega arith)
@@ -60,5 +54,5 @@ text-length k f =
     )
 
 pub texts-fit : TextsFit
-texts-fit (Known k f) = text-length k f
-texts-fit Unknown = omega arith
+texts-fit (Some i) = text-length i.kind i.fields
+texts-fit None = omega arith

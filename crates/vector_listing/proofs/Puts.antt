@@ -1,10 +1,5 @@
 -- Bytes put one run after the other are one run (`puts_then`). Assumes nothing.
-use mathlib.Core.List.{List, [], ◌++◌}
-use mathlib.Core.Path.{◌≡◌, refl, sym, subst, ◌∙◌}
-use Prim.Native.Nat.{ℕ}
-use native.Mathlib.Nat.{add-zero}
-use native.Mathlib.Omega.{arith}
-use lib.ListN.{length-append}
+use Rattle.std.proofs.Common.{List, [], ◌++◌, ◌≡◌, refl, sym, subst, ◌∙◌, ℕ, add-zero, arith, length-append}
 use lib.Seq.{sets}
 use Rattle.octets.proofs.Stores.{sets-append}
 use Rattle.vector_listing.specs.Listing.{Puts}

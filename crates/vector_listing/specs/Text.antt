@@ -1,7 +1,7 @@
 -- The text of a word (document 02, Ask 1): mnemonic, a space, the operands in the order of sources 000 and 002, parted by a comma and a space,
 -- and ", v0.t" at the end when vm is 0. Assumes nothing.
 use Prim.Native.Char.{code}
-use Rattle.std.specs.Prelude.{ℕ, ◌+◌, ◌/◌, ◌%◌, cond, List, [], ◌∷◌, ◌++◌, eqb, ltb}
+use Rattle.std.specs.Prelude.{ℕ, ◌+◌, ◌/◌, ◌%◌, cond, List, [], ◌∷◌, ◌++◌, eqb, ltb, Option, Some, None}
 use Prim.Native.String.{String, [] as []ˢ, ◌∷◌ as ◌∷ˢ◌}
 use Rattle.vector_kind.specs.declared.Form.{Form}
 use Rattle.vector_kind.specs.declared.Form.TheVariants.{Vv, Vx, Vs}
@@ -9,10 +9,9 @@ use Rattle.vector_kind.specs.declared.Kind.{Kind}
 use Rattle.vector_kind.specs.declared.Kind.TheVariants.{VclmulVv, VclmulVx, VclmulhVv, VclmulhVx, VghshVv, VghshVs, VgmulVv, VgmulVs}
 use Rattle.vector_kind.specs.Kinds.{traits}
 use Rattle.vector_word.specs.declared.Fields.{Fields}
-use Rattle.vector_word.specs.declared.Word.{Word}
-use Rattle.vector_word.specs.declared.Word.TheVariants.{Known, Unknown}
+use Rattle.vector_word.specs.declared.Instruction.{Instruction}
 use Rattle.vector_listing.specs.declared.Third.{Third}
-use Rattle.vector_listing.specs.declared.Third.TheVariants.{Vs1, Rs1, Nothing}
+use Rattle.vector_listing.specs.declared.Third.TheVariants.{Vs1, Rs1}
 
 -- the characters' codes, one byte each
 abbrev pub ascii : String → List ℕ
@@ -39,19 +38,19 @@ abbrev pub decimal : ℕ → List ℕ
 decimal n = cond (ltb n 10) (digit n ∷ []) (digit (n / 10) ∷ digit (n % 10) ∷ [])
 
 -- the third operand where vs1 is no register group: rs1 in a .vx word, and none in vgmul
-abbrev pub third_in : Form → Third
-third_in Vv = Nothing
-third_in Vx = Rs1
-third_in Vs = Nothing
+abbrev pub third_in : Form → Option Third
+third_in Vv = None
+third_in Vx = Some Rs1
+third_in Vs = None
 
 -- what the vs1 field is in the texts of a kind
-abbrev pub third_of : Kind → Third
-third_of k = cond (traits k).vs1_group Vs1 (third_in (traits k).form)
+abbrev pub third_of : Kind → Option Third
+third_of k = cond (traits k).vs1_group (Some Vs1) (third_in (traits k).form)
 
-abbrev pub third : Third → ℕ → List ℕ
-third Vs1 n = ascii ", v" ++ decimal n
-third Rs1 n = ascii ", x" ++ decimal n
-third Nothing n = []
+abbrev pub third : Option Third → ℕ → List ℕ
+third (Some Vs1) n = ascii ", v" ++ decimal n
+third (Some Rs1) n = ascii ", x" ++ decimal n
+third None n = []
 
 -- a word with vm 0 is masked by register 0
 abbrev pub mask : ℕ → List ℕ
@@ -65,6 +64,6 @@ text k f =
     ++ ((ascii ", v" ++ decimal f.vs2)
     ++ (third (third_of k) f.vs1 ++ mask f.vm)))
 
-abbrev pub text_of : Word → List ℕ
-text_of (Known k f) = text k f
-text_of Unknown = []
+abbrev pub text_of : Option Instruction → List ℕ
+text_of (Some i) = text i.kind i.fields
+text_of None = []

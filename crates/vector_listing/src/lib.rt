@@ -4,50 +4,18 @@
 ghost use Rattle.std.specs.Prelude.{◌≡◌, ◌++◌, ◌+◌, ◌<◌, ◌≤◌, length};
 ghost use Rattle.vector_word.specs.Word.{decode};
 ghost use Rattle.vector_listing.specs.Text.{mnemonic, digit, decimal, third_of, third, mask, text};
-ghost use Rattle.vector_listing.specs.Listing.{Registers, RegistersOf, Puts, listed, listed_into};
+ghost use Rattle.vector_listing.specs.Listing.{Registers, Puts, listed, listed_into, answered};
 
 use octets_slice::put;
-use vector_kind::{Form, Kind, traits_of};
-use vector_word::{Fields, Word, decode};
+use refusal::Refusal;
+use vector_kind::{Form, Kind};
+use vector_word::{Instruction, decode};
 
-// What the vs1 field is in a word's text: the vector register vs1, the scalar register rs1, or nothing.
-#[derive(Clone, Copy)]
+// What the vs1 field is in a word's text: the vector register vs1, or the scalar register rs1.
+#[derive(Clone, Copy, PartialEq, Eq)]
 pub enum Third {
     Vs1,
     Rs1,
-    Nothing,
-}
-
-// What the listing answers: the number, and the text's length, which is 0 where the number is not.
-#[derive(Clone, Copy)]
-pub struct Listed {
-    pub number: u32,
-    pub length: usize,
-}
-
-// Puts bytes at a place, and gives the place after them.
-fn put_bytes(s: &mut [u8], at: usize, part: &[u8]) -> usize
-    requires { (at ≤ 32) × (length part.now ≤ 32) }
-    ensures { Puts s.old at part.now result s.new }
-{
-    put(s, at, part);
-    at + part.len()
-}
-
-// The kind's mnemonic, at the start.
-fn put_mnemonic(s: &mut [u8], k: Kind) -> usize
-    ensures { Puts s.old 0 (mnemonic k) result s.new × (result ≤ 10) }
-{
-    match k {
-        Kind::VclmulVv => put_bytes(s, 0, b"vclmul.vv"),
-        Kind::VclmulVx => put_bytes(s, 0, b"vclmul.vx"),
-        Kind::VclmulhVv => put_bytes(s, 0, b"vclmulh.vv"),
-        Kind::VclmulhVx => put_bytes(s, 0, b"vclmulh.vx"),
-        Kind::VghshVv => put_bytes(s, 0, b"vghsh.vv"),
-        Kind::VghshVs => put_bytes(s, 0, b"vghsh.vs"),
-        Kind::VgmulVv => put_bytes(s, 0, b"vgmul.vv"),
-        Kind::VgmulVs => put_bytes(s, 0, b"vgmul.vs"),
-    }
 }
 
 fn digit(d: u32) -> u8
@@ -57,106 +25,133 @@ fn digit(d: u32) -> u8
     (48 + d) as u8
 }
 
-// A number in decimal, without leading zeros.
-fn put_decimal(s: &mut [u8], at: usize, n: u32) -> usize
-    requires { (at ≤ 32) × (n < 100) }
-    ensures { Puts s.old at (decimal n) result s.new }
-{
-    if n < 10 {
-        return put_bytes(s, at, &[digit(n)]);
-    }
-    put_bytes(s, at, &[digit(n / 10), digit(n % 10)])
-}
-
-// An operand: what leads it, and its number.
-fn put_operand(s: &mut [u8], at: usize, lead: &[u8], n: u32) -> usize
-    requires { (at + length lead.now ≤ 32) × (n < 100) }
-    ensures { Puts s.old at (lead.now ++ decimal n) result s.new × (result ≤ at + length lead.now + 2) }
-{
-    let next = put_bytes(s, at, lead);
-    put_decimal(s, next, n)
-}
-
-// What the vs1 field is in the texts of this kind.
-fn third_of(k: Kind) -> Third
+// What the vs1 field is in the texts of this kind, where they show it.
+fn third_of(k: Kind) -> Option<Third>
     ensures { result ≡ third_of k }
 {
-    let t = traits_of(k);
+    let t = k.traits();
     if t.vs1_group {
-        return Third::Vs1;
+        return Some(Third::Vs1);
     }
-    let form = t.form;
-    match form {
-        Form::Vv => Third::Nothing,
-        Form::Vx => Third::Rs1,
-        Form::Vs => Third::Nothing,
+    match t.form {
+        Form::Vx => Some(Third::Rs1),
+        Form::Vv | Form::Vs => None,
     }
 }
 
-// The third operand, where there is one.
-fn put_third(s: &mut [u8], at: usize, t: Third, n: u32) -> usize
-    requires { (at ≤ 29) × (n < 100) }
-    ensures { Puts s.old at (third t n) result s.new × (result ≤ at + 5) }
-{
-    match t {
-        Third::Vs1 => put_operand(s, at, b", v", n),
-        Third::Rs1 => put_operand(s, at, b", x", n),
-        Third::Nothing => at,
+// A text that is being written: the buffer, and the place after what stands there. No `Display`: no clause can say what its
+// `fmt` writes, and the text is promised byte by byte. That the buffer stays the same one is said by each method: no ghost field can.
+#[derive(Drop)]
+struct Cursor<'a> {
+    text: &'a mut [u8],
+    at: usize,
+}
+
+impl Cursor<'_> {
+    fn put(&mut self, part: &[u8])
+        requires { (self.old.at ≤ 32) × (length part.now ≤ 32) }
+        ensures same_buffer { self.new.text.ghost_name ≡ self.old.text.ghost_name }
+        ensures puts { Puts self.old.text.now self.old.at part.now self.new.at self.new.text.now }
+    {
+        put(self.text, self.at, part);
+        self.at += part.len();
     }
-}
 
-// The mask, where there is one.
-fn put_mask(s: &mut [u8], at: usize, vm: u32) -> usize
-    requires { at ≤ 32 }
-    ensures { Puts s.old at (mask vm) result s.new }
-{
-    if vm == 0 {
-        return put_bytes(s, at, b", v0.t");
-    }
-    at
-}
-
-// The whole text of a kind with its fields, from the start.
-fn put_text(s: &mut [u8], k: Kind, f: Fields) -> usize
-    requires { Registers f }
-    ensures { Puts s.old 0 (text k f) result s.new }
-{
-    let at = put_mnemonic(s, k);
-    let at = put_operand(s, at, b" v", f.vd);
-    let at = put_operand(s, at, b", v", f.vs2);
-    let at = put_third(s, at, third_of(k), f.vs1);
-    put_mask(s, at, f.vm)
-}
-
-// The text of a decoded word in the buffer, or the number that refuses it.
-fn list_decoded(w: Word, text: &mut [u8]) -> Listed
-    requires { RegistersOf w }
-    ensures { (result ≡ listed (length text.old) w) × (text.new ≡ listed_into text.old w) }
-{
-    match w {
-        Word::Known(k, f) => {
-            if text.len() < 32 {
-                return Listed {
-                    number: 22,
-                    length: 0,
-                };
-            }
-            Listed {
-                number: 0,
-                length: put_text(text, k, f),
-            }
+    // The kind's mnemonic, at the start. Eight calls: a table of texts would be data that the linker writes, and the archive has
+    // none (docs/INTEGRATION.md).
+    fn put_mnemonic(&mut self, k: Kind)
+        requires { self.old.at ≡ 0 }
+        ensures same_buffer { self.new.text.ghost_name ≡ self.old.text.ghost_name }
+        ensures puts { Puts self.old.text.now self.old.at (mnemonic k) self.new.at self.new.text.now }
+        ensures short { self.new.at ≤ 10 }
+    {
+        match k {
+            Kind::VclmulVv => self.put(b"vclmul.vv"),
+            Kind::VclmulVx => self.put(b"vclmul.vx"),
+            Kind::VclmulhVv => self.put(b"vclmulh.vv"),
+            Kind::VclmulhVx => self.put(b"vclmulh.vx"),
+            Kind::VghshVv => self.put(b"vghsh.vv"),
+            Kind::VghshVs => self.put(b"vghsh.vs"),
+            Kind::VgmulVv => self.put(b"vgmul.vv"),
+            Kind::VgmulVs => self.put(b"vgmul.vs"),
         }
-        Word::Unknown => Listed {
-            number: 2,
-            length: 0,
-        },
+    }
+
+    // A number in decimal, without leading zeros.
+    fn put_decimal(&mut self, n: u32)
+        requires { (self.old.at ≤ 32) × (n < 100) }
+        ensures same_buffer { self.new.text.ghost_name ≡ self.old.text.ghost_name }
+        ensures puts { Puts self.old.text.now self.old.at (decimal n) self.new.at self.new.text.now }
+    {
+        if n < 10 {
+            self.put(&[digit(n)]);
+        } else {
+            self.put(&[digit(n / 10), digit(n % 10)]);
+        }
+    }
+
+    // An operand: what leads it, and its number.
+    fn put_operand(&mut self, lead: &[u8], n: u32)
+        requires { (self.old.at + length lead.now ≤ 32) × (n < 100) }
+        ensures same_buffer { self.new.text.ghost_name ≡ self.old.text.ghost_name }
+        ensures puts { Puts self.old.text.now self.old.at (lead.now ++ decimal n) self.new.at self.new.text.now }
+        ensures short { self.new.at ≤ self.old.at + length lead.now + 2 }
+    {
+        self.put(lead);
+        self.put_decimal(n);
+    }
+
+    // The third operand, where there is one.
+    fn put_third(&mut self, t: Option<Third>, n: u32)
+        requires { (self.old.at ≤ 29) × (n < 100) }
+        ensures same_buffer { self.new.text.ghost_name ≡ self.old.text.ghost_name }
+        ensures puts { Puts self.old.text.now self.old.at (third t n) self.new.at self.new.text.now }
+        ensures short { self.new.at ≤ self.old.at + 5 }
+    {
+        match t {
+            Some(Third::Vs1) => self.put_operand(b", v", n),
+            Some(Third::Rs1) => self.put_operand(b", x", n),
+            None => {}
+        }
+    }
+
+    // The mask, where there is one.
+    fn put_mask(&mut self, vm: u32)
+        requires { self.old.at ≤ 32 }
+        ensures same_buffer { self.new.text.ghost_name ≡ self.old.text.ghost_name }
+        ensures puts { Puts self.old.text.now self.old.at (mask vm) self.new.at self.new.text.now }
+    {
+        if vm == 0 {
+            self.put(b", v0.t");
+        }
+    }
+
+    // The whole text of an instruction, at the start.
+    fn put_text(&mut self, i: Instruction)
+        requires start { self.old.at ≡ 0 }
+        requires registers { Registers i.fields }
+        ensures same_buffer { self.new.text.ghost_name ≡ self.old.text.ghost_name }
+        ensures puts { Puts self.old.text.now self.old.at (text i.kind i.fields) self.new.at self.new.text.now }
+    {
+        let f = i.fields;
+        self.put_mnemonic(i.kind);
+        self.put_operand(b" v", f.vd);
+        self.put_operand(b", v", f.vs2);
+        self.put_third(third_of(i.kind), f.vs1);
+        self.put_mask(f.vm);
     }
 }
 
 // The listing of a word: its text from the start of the buffer on, and the text's length.
-pub fn list(word: u32, text: &mut [u8]) -> Listed
-    ensures { (result ≡ listed (length text.old) (decode word))
-        × (text.new ≡ listed_into text.old (decode word)) }
+pub fn list(word: u32, text: &mut [u8]) -> Result<usize, Refusal>
+    ensures answer { answered result ≡ listed (length text.old) (decode word) }
+    ensures text { text.new ≡ listed_into text.old (decode word) }
 {
-    list_decoded(decode(word), text)
+    let i = decode(word).ok_or(Refusal::NotAWord)?;
+    if text.len() < 32 {
+        return Err(Refusal::ShortText);
+    }
+    let mut cursor = Cursor { text, at: 0 };
+    cursor.put_text(i);
+    Ok(cursor.at)
 }

@@ -1,40 +1,43 @@
 -- The writer and the decoder with the kinds as numbers, as callers in C have them.
 -- Assumes nothing.
-use Rattle.std.specs.Prelude.{ℕ, ◌^◌, ◌<◌, cond, List, [], ◌∷◌, ◌≡◌, eqb}
+use Rattle.std.specs.Prelude.{ℕ, ◌^◌, ◌<◌, ◌≡◌, Option, Some, None, Result, Ok, Err}
+use Rattle.refusal.specs.Refusal.{number}
+use Rattle.refusal.specs.declared.Refusal.{Refusal}
 use Rattle.vector_kind.specs.declared.Kind.{Kind}
-use Rattle.vector_kind.specs.Kinds.{kind_number}
-use Rattle.vector_word.specs.declared.Encoded.{Encoded}
+use Rattle.vector_kind.specs.Kinds.{kind_number, kind_numbered}
 use Rattle.vector_word.specs.declared.Fields.{Fields}
-use Rattle.vector_word.specs.declared.Word.{Word}
-use Rattle.vector_word.specs.declared.Word.TheVariants.{Known, Unknown}
-use Rattle.vector_word.specs.Word.{kinds, decode}
-use Rattle.vector_word.specs.Writer.{encoded}
-use Rattle.vector_numbers.specs.declared.Decoded.{Decoded}
-use Rattle.vector_numbers.specs.declared.Numbered.{Numbered}
-use Rattle.vector_numbers.specs.declared.Numbered.TheVariants.{Is, Nothing}
-
--- the one of these kinds that has this number
-abbrev pub numbered_among : List Kind → ℕ → Numbered
-numbered_among [] n = Nothing
-numbered_among (k ∷ ks) n = cond (eqb n (kind_number k)) (Is k) (numbered_among ks n)
-
-abbrev pub kind_numbered : ℕ → Numbered
-kind_numbered n = numbered_among kinds n
+use Rattle.vector_word.specs.declared.Instruction.{Instruction}
+use Rattle.vector_word.specs.Word.{decode}
+use Rattle.vector_word.specs.Writer.{Encoded, encoded}
 
 -- ---- the writer: 2 and 0 where no kind has the number
 
-abbrev pub encoded_by : Numbered → Fields → Encoded
-encoded_by (Is k) f = encoded k f
-encoded_by Nothing f = record { number = 2; word = 0 }
+abbrev pub encoded_by : Result Kind Refusal → Fields → Encoded
+encoded_by (Ok k) f = encoded k f
+encoded_by (Err refusal) f = record { number = number refusal; word = 0 }
 
 abbrev pub encoded_numbered : ℕ → Fields → Encoded
 encoded_numbered kind f = encoded_by (kind_numbered kind) f
 
 -- ---- the decoder: 2 and zeros where the word is none of the eight
 
-abbrev pub decoded_by : Word → Decoded
-decoded_by (Known k f) = record { number = 0; kind = kind_number k; fields = f }
-decoded_by Unknown = record { number = 2; kind = 0; fields = record { vm = 0; vs2 = 0; vs1 = 0; vd = 0 } }
+-- what the decoder answers, as C has it: the number, and the kind's number and the fields, which are 0 where the number is not
+pub record Decoded : Type 0 where
+  pub number : ℕ
+  pub kind : ℕ
+  pub fields : Fields
+
+-- no kind and no fields beside a number
+abbrev pub nothing_beside : ℕ → Decoded
+nothing_beside n = record { number = n; kind = 0; fields = record { vm = 0; vs2 = 0; vs1 = 0; vd = 0 } }
+
+abbrev pub decoded : Result (ℕ × Fields) Refusal → Decoded
+decoded (Ok found) = record { number = 0; kind = found.0; fields = found.1 }
+decoded (Err refusal) = nothing_beside (number refusal)
+
+abbrev pub decoded_by : Option Instruction → Decoded
+decoded_by (Some i) = record { number = 0; kind = kind_number i.kind; fields = i.fields }
+decoded_by None = nothing_beside 2
 
 abbrev pub decoded_numbered : ℕ → Decoded
 decoded_numbered word = decoded_by (decode word)

@@ -3,15 +3,12 @@
 -- factors may be exchanged), `product_lt`, `halves` (two w-bit numbers have a product of 2w bits, which is its two halves together),
 -- `enough`, `whole` (w steps are enough for a w-bit factor), `more-steps` (the steps in two parts).
 -- Assumes nothing.
-use mathlib.Core.Path.{◌≡◌, refl, sym, ap, ap₂, subst, ◌∙◌}
-use Prim.Native.Nat.{ℕ, zero, suc, ◌+◌, ◌-◌, ◌*◌, ◌/◌, ◌%◌, ◌^◌, ◌<◌, ◌≤◌}
-use native.Mathlib.Nat.{lt_of_lt_of_le, lt_of_le_of_lt, div-eq_of_lt, zero-mod, mod-one, zero-mul, one-mul, two-mul, add-suc, add_comm, le-add_right, le-mul_of_pos_right, lt_of_not-le, add-zero, mul-zero, le_of_suc-le, le_refl, mul_assoc, mul_comm, mul_right_comm, mod-lt, mod-eq_of_lt}
+use Rattle.std.proofs.Common.{◌≡◌, refl, sym, ap, ap₂, subst, ◌∙◌, ℕ, zero, suc, ◌+◌, ◌-◌, ◌*◌, ◌/◌, ◌%◌, ◌^◌, ◌<◌, ◌≤◌, lt_of_lt_of_le, lt_of_le_of_lt, zero-mul, one-mul, two-mul, add-suc, add_comm, le-add_right, le-mul_of_pos_right, lt_of_not-le, add-zero, mul-zero, le_refl, mul_assoc, mul_comm, mul_right_comm, mod-lt, mod-eq_of_lt, one-add, arith, bit_xor, pow_pos, pow_mono, shl_lt, shr-shr}
+use native.Mathlib.Nat.{div-eq_of_lt, zero-mod, mod-one, le_of_suc-le}
 use native.Mathlib.Decide.{dec_le}
-use native.Mathlib.Numerals.{one-add}
-use native.Mathlib.Omega.{arith}
 use lib.Arith.{lt-one}
-use lib.Bits.{bit_xor, xor_lt, xor_shr, xor_zero_r}
-use lib.Pow.{pow_pos, pow_mono, shl_lt, shr-shr, recompose, mod-mod-pow, field}
+use lib.Bits.{xor_lt, xor_shr, xor_zero_r}
+use lib.Pow.{recompose, mod-mod-pow, field}
 use Rattle.gf128.proofs.Halves.{shl-shl, top_digit}
 use Rattle.gf128.proofs.Places.{digit-ind, digit-xor, xor-digit, digit_lt}
 use Rattle.gf128.proofs.Xor.{xor_assoc, xor-odd, xor-swap4, xor-shl}

@@ -1,10 +1,8 @@
 -- The carry-less product from products of pieces, each law over the number of pieces. Main results: `digits-left`, `digits-right` (a
 -- factor in digits of any width), `whole-from-pieces`, `both_halves` (the products of pieces make up the whole).
 -- Assumes nothing.
-use mathlib.Core.Path.{◌≡◌, refl, sym, ap, ap₂, ◌∙◌}
-use Prim.Native.Nat.{ℕ, zero, suc, ◌+◌, ◌*◌, ◌/◌, ◌%◌, ◌^◌, ◌<◌}
-use native.Mathlib.Nat.{lt-suc_self, le_step, le_refl, add_comm, mod-one, mul-add, mul-zero, zero-mul, mul-suc, mod-eq_of_lt}
-use lib.Bits.{bit_xor}
+use Rattle.std.proofs.Common.{◌≡◌, refl, sym, ap, ap₂, ◌∙◌, ℕ, zero, suc, ◌+◌, ◌*◌, ◌/◌, ◌%◌, ◌^◌, ◌<◌, lt-suc_self, le_refl, add_comm, mul-add, mul-zero, zero-mul, mul-suc, mod-eq_of_lt, bit_xor}
+use native.Mathlib.Nat.{le_step, mod-one}
 use Rattle.gf128.proofs.Halves.{shl-shl, top_digit}
 use Rattle.gf128.proofs.Xor.{xor-swap4, xor-shl}
 use Rattle.vector_product.specs.Clmul.{clmul, clmul64, low_half, high_half}

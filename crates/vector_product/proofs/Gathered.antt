@@ -1,12 +1,11 @@
--- The loop over b's pieces: how the products of a's even and odd pieces with each of them are gathered into two numbers (`turn`).
+-- The loop over b's pieces: how the products of a's even and odd pieces with each of them are gathered into two numbers (`turn`), and
+-- that the pieces are b's bytes (`piece_read`).
 -- Assumes nothing.
-use mathlib.Core.Path.{◌≡◌, refl, sym, ap, ap₂, ◌∙◌}
-use Prim.Native.Nat.{ℕ, zero, suc, ◌+◌, ◌-◌, ◌*◌, ◌/◌, ◌%◌, ◌^◌, ◌<◌}
-use native.Mathlib.Numerals.{add-one}
-use native.Mathlib.Nat.{add_comm}
-use native.Mathlib.Omega.{arith}
-use lib.Bits.{bit_xor, xor_comm, xor_shifted}
-use lib.Pow.{shr_lt, shl-shr, shr-shr}
+use Rattle.std.proofs.Common.{◌≡◌, ℕ, zero, suc, ◌+◌, ◌-◌, ◌*◌, ◌/◌, ◌%◌, ◌^◌, ◌<◌, bit_xor, get_or, refl, sym, ap, ap₂, ◌∙◌, add-zero, zero-add, add_comm, add-one, shr_lt, arith}
+use Rattle.std.proofs.Math.Nat.{div-one, mod-mod, pow-suc}
+use Rattle.std.proofs.lemmas.Nat.{pow-add, shl-shr, shr-shr, xor_comm}
+use Rattle.std.specs.Int.{byte_at, bytes_low_first}
+use Rattle.std.specs.Int.Bits.{xor_shifted}
 use Rattle.gf128.proofs.Halves.{shl-shl, shl-mod, high-xor, halves-moved, moved-lt}
 use Rattle.gf128.proofs.Xor.{xor_assoc, xor-swap4, xor-shl}
 use Rattle.vector_product.specs.Pieces.{piece, clmul8, sum, sum_of_products, lanes, even_products}
@@ -49,6 +48,25 @@ row a q =
     ap (λ (x : ℕ). clmul8 (x % 2 ^ 8) q) (shr-shr a 8 (8 * (2 * k)) ∙ ap (λ (n : ℕ). a / 2 ^ n) (omega arith))))
     ∙ interleaved 4 (λ i. clmul8 (piece i a) q)
 
+-- the bytes of a number are its pieces
+bits_of : (i : ℕ) → 256 ^ i ≡ 2 ^ (8 * i)
+bits_of zero = refl
+bits_of (suc i) =
+    let next : 8 * i + 8 ≡ 8 * suc i = omega arith in
+    pow-suc 256 i ∙ ap (λ x. x * 2 ^ 8) (bits_of i) ∙ sym (pow-add 2 (8 * i) 8) ∙ ap (λ k. 2 ^ k) next
+
+byte_piece : (i n : ℕ) → byte_at i n ≡ piece i n
+byte_piece zero n = ap (λ x. x % 2 ^ 8) (sym (div-one n))
+byte_piece (suc i) n = ap (λ x. n / x % 2 ^ 8) (bits_of (suc i))
+
+byte_in : (k i j n : ℕ) → j < k → get_or (bytes_low_first i k n) j 0 ≡ piece (i + j) n
+byte_in zero i j n h = absurd (omega arith)
+byte_in (suc k) i zero n h = byte_piece i n ∙ ap (λ x. piece x n) (sym (add-zero i))
+byte_in (suc k) i (suc j) n h = byte_in k (suc i) j n (omega arith) ∙ ap (λ x. piece x n) (omega arith)
+
+pub piece_read : (b j : ℕ) → j < 8 → get_or (bytes_low_first 0 8 b) j 0 % 2 ^ 8 ≡ piece j b
+piece_read b j h = ap (λ x. x % 2 ^ 8) (byte_in 8 0 j b h ∙ ap (λ x. piece x b) (zero-add j)) ∙ mod-mod (b / 2 ^ (8 * j)) (2 ^ 8)
+
 -- r is a sum held 8 + d places up. It gains e at place 8·j and o one piece higher, and comes down by 8: what leaves the upper number
 -- goes to the lower
 module _ (j d r e o top low : ℕ) (place : 8 * j + d ≡ 56) (below : low < 2 ^ 64) (held : top * 2 ^ 64 + low ≡ r * 2 ^ (d + 8)) where
@@ -61,7 +79,7 @@ module _ (j d r e o top low : ℕ) (place : 8 * j + d ≡ 56) (below : low < 2 ^
   comes_down : gained / 2 ^ 8 * 2 ^ 64 + lower ≡ bit_xor (r * 2 ^ d) (e * 2 ^ 56)
   comes_down =
       sym (halves-moved 56 8 gained low)
-      ∙ ap (λ (x : ℕ). x / 2 ^ 8)
+      ∙ ap (λ x. x / 2 ^ 8)
       (high-xor 64 top e low below ∙ ap₂ bit_xor (held ∙ shl-shl r d 8) (shl-shl e 56 8) ∙ sym (xor-shl (r * 2 ^ d) (e * 2 ^ 56) 8))
       ∙ shl-shr (bit_xor (r * 2 ^ d) (e * 2 ^ 56)) 8
 
@@ -76,31 +94,30 @@ module _ (j d r e o top low : ℕ) (place : 8 * j + d ≡ 56) (below : low < 2 ^
       ≡ bit_xor r (bit_xor e (o * 2 ^ 8) * 2 ^ (8 * j)) * 2 ^ d
   gathered =
       let added = bit_xor e (o * 2 ^ 8) in
-      ap (λ (x : ℕ). bit_xor (gained / 2 ^ 8) o * 2 ^ 64 + x) lower-is
+      ap (λ x. bit_xor (gained / 2 ^ 8) o * 2 ^ 64 + x) lower-is
       ∙ high-xor 64 (gained / 2 ^ 8) o lower (moved-lt 56 8 gained low below)
       ∙ ap₂ bit_xor comes_down (shl-shl o 8 56)
       ∙ xor_assoc (r * 2 ^ d) (e * 2 ^ 56) (o * 2 ^ 8 * 2 ^ 56)
       ∙ ap (bit_xor (r * 2 ^ d))
-      (sym (xor-shl e (o * 2 ^ 8) 56) ∙ ap (λ (k : ℕ). added * 2 ^ k) (sym place) ∙ shl-shl added (8 * j) d)
+      (sym (xor-shl e (o * 2 ^ 8) 56) ∙ ap (λ k. added * 2 ^ k) (sym place) ∙ shl-shl added (8 * j) d)
       ∙ sym (xor-shl r (added * 2 ^ (8 * j)) d)
 
--- a turn: the sum of the products with b's first j pieces gains those with the lowest piece of what is left of b
-pub turn : (a b j rest top low e o : ℕ) → j < 8 → low < 2 ^ 64 → rest ≡ b / 2 ^ (8 * j)
-    → e ≡ even_products a (rest % 2 ^ 8) → o ≡ even_products (a / 2 ^ 8) (rest % 2 ^ 8)
+-- a turn: the sum of the products with b's first j pieces gains those with the next piece
+pub turn : (a b j top low e o : ℕ) → j < 8 → low < 2 ^ 64
+    → e ≡ even_products a (piece j b) → o ≡ even_products (a / 2 ^ 8) (piece j b)
     → top * 2 ^ 64 + low ≡ sum_of_products 8 j a b * 2 ^ (64 - 8 * j)
     → bit_xor (bit_xor top e / 2 ^ 8) o * 2 ^ 64 + bit_xor (low / 2 ^ 8) (bit_xor top e * 2 ^ 56 % 2 ^ 64)
     ≡ sum_of_products 8 (j + 1) a b * 2 ^ (64 - 8 * (j + 1))
 unfolding sum
-turn a b j rest top low e o h below left he ho held =
+turn a b j top low e o h below he ho held =
     let here : 8 * j + (56 - 8 * j) ≡ 56 = omega arith in
     let before : 64 - 8 * j ≡ 56 - 8 * j + 8 = omega arith in
     let after : 56 - 8 * j ≡ 64 - 8 * (j + 1) = omega arith in
-    gathered j (56 - 8 * j) r e o top low here below (held ∙ ap (λ (k : ℕ). r * 2 ^ k) before)
-    ∙ ap₂ (λ (x k : ℕ). bit_xor r x * 2 ^ k)
-    (ap (λ (x : ℕ). x * 2 ^ (8 * j)) (ap₂ (λ (x y : ℕ). bit_xor x (y * 2 ^ 8)) he ho ∙ row a (rest % 2 ^ 8)) ∙ placed 8 a (rest % 2 ^ 8) j)
+    gathered j (56 - 8 * j) r e o top low here below (held ∙ ap (λ k. r * 2 ^ k) before)
+    ∙ ap₂ (λ x k. bit_xor r x * 2 ^ k)
+    (ap (λ x. x * 2 ^ (8 * j)) (ap₂ (λ x y. bit_xor x (y * 2 ^ 8)) he ho ∙ row a (piece j b)) ∙ placed 8 a (piece j b) j)
     after
-    ∙ ap (λ (x : ℕ). bit_xor r (sum 8 (λ i. clmul8 (piece i a) (x % 2 ^ 8) * 2 ^ (8 * (i + j)))) * 2 ^ (64 - 8 * (j + 1))) left
-    ∙ ap (λ (n : ℕ). sum_of_products 8 n a b * 2 ^ (64 - 8 * (j + 1))) (sym (add-one j))
+    ∙ ap (λ n. sum_of_products 8 n a b * 2 ^ (64 - 8 * (j + 1))) (sym (add-one j))
   where
     r : ℕ
     r = sum_of_products 8 j a b

@@ -2,18 +2,11 @@
 -- products at once do not meet), `masked` (the even pieces), `window-zero` to `window-next` (what a window holds), `looked-up` (what
 -- two look-ups give).
 -- Assumes nothing.
-use mathlib.Core.Path.{◌≡◌, sym, ap, ap₂, subst, ◌∙◌}
-use mathlib.Core.List.{List}
-use mathlib.Core.Logic.{⊎_elim}
-use Prim.Native.Nat.{ℕ, zero, suc, ◌+◌, ◌-◌, ◌*◌, ◌/◌, ◌%◌, ◌^◌, ◌<◌, ◌≤◌}
-use native.Mathlib.Nat.{eq-or-lt_of_le, le_of_suc-le-suc, lt_of_lt_of_le, lt_of_le_of_lt, lt-suc_self, le_step, add_comm, mul-one, mul-suc, mul_comm, mul_right_comm, mod-lt, mod-eq_of_lt}
-use native.Mathlib.Omega.{arith}
+use Rattle.std.proofs.Common.{◌≡◌, sym, ap, ap₂, subst, ◌∙◌, List, ⊎_elim, ℕ, zero, suc, ◌+◌, ◌-◌, ◌*◌, ◌/◌, ◌%◌, ◌^◌, ◌<◌, ◌≤◌, eq-or-lt_of_le, le_of_suc-le-suc, lt_of_lt_of_le, lt_of_le_of_lt, lt-suc_self, add_comm, mul-one, mul-suc, mul_comm, mul_right_comm, mod-lt, mod-eq_of_lt, arith, length, get_or, set, length-set, get_or-set_same, get_or-set_other, below_more, bit_xor, bit_and, pow_pos, pow-add, pow_mono, shl_lt, shl_exact}
+use native.Mathlib.Nat.{le_step}
 use lib.Arith.{digits_lt}
-use lib.ListN.{length, get_or, set, length-set}
-use lib.Seq.{get_or-set_same, get_or-set_other}
-use borrow.Author.Count.{below_more}
-use lib.Bits.{bit_xor, bit_and, xor_lt, xor_self, xor_comm, xor_shifted, and_zero_r, and_le_r, and_mask, and_mod, and_block}
-use lib.Pow.{pow_pos, pow-add, pow_mono, shl_lt, shl_exact, split, high}
+use lib.Bits.{xor_lt, xor_self, xor_comm, xor_shifted, and_zero_r, and_le_r, and_mask, and_mod, and_block}
+use lib.Pow.{split, high}
 use Rattle.gf128.proofs.Halves.{top_digit, field-in-low}
 use Rattle.gf128.proofs.Xor.{xor-shl}
 use Rattle.vector_product.specs.Pieces.{piece, clmul8, sum, lanes, lane, even_pieces, even_products, LanesApart}

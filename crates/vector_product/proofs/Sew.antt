@@ -1,9 +1,6 @@
 -- What it tells of SEW that it is allowed: 8, 16, 32 or 64.
 -- Assumes nothing.
-use mathlib.Core.Bool.{true}
-use mathlib.Core.Path.{◌≡◌, refl}
-use Prim.Native.Nat.{ℕ, ◌+◌, ◌<◌, ◌≤◌}
-use native.Mathlib.Omega.{arith}
+use Rattle.std.proofs.Common.{true, ◌≡◌, refl, ℕ, ◌+◌, ◌<◌, ◌≤◌, arith}
 use Rattle.vector_registers.specs.Settings.{sew_allowed}
 use Rattle.vector_registers.proofs.Allowed.{each-sew}
 

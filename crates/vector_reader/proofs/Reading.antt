@@ -1,23 +1,14 @@
 -- What is taken is what is listed: `listed-is-found`, `found-is-listed`. From these come the reader's answers (`not-a-word`, `its-text`,
 -- `other_text`) and the theorems for readers (`read-from-its-text`, `one-word-a-text`, `one_answer`). Assumes nothing.
-use mathlib.Core.Bool.{Bool, true, false, cond}
-use mathlib.Core.List.{List, ◌++◌}
-use mathlib.Core.Path.{◌≡◌, refl, sym, ap, subst, ◌∙◌}
-use Prim.Native.Nat.{ℕ, ◌^◌, ◌<◌}
-use native.Mathlib.Omega.{arith}
-use lib.Dec.{eqb, ltb}
-use lib.ListN.{length, drop}
-use borrow.Author.Tests.{eqb-true, eqb-false}
+use Rattle.std.proofs.Common.{Bool, true, false, cond, List, ◌++◌, ◌≡◌, refl, sym, ap, subst, ◌∙◌, ℕ, ◌^◌, ◌<◌, arith, eqb, ltb, length, drop, eqb-true, Option, Some, None}
+use borrow.Author.Tests.{eqb-false}
 use Rattle.vector_kind.specs.declared.Kind.{Kind}
-use Rattle.vector_word.specs.declared.Encoded.{Encoded}
 use Rattle.vector_word.specs.declared.Fields.{Fields}
-use Rattle.vector_word.specs.declared.Word.{Word}
-use Rattle.vector_word.specs.declared.Word.TheVariants.{Known, Unknown}
-use Rattle.vector_word.specs.Word.{row, decode}
-use Rattle.vector_word.specs.Writer.{admits, encoded}
+use Rattle.vector_word.specs.declared.Instruction.{Instruction}
+use Rattle.vector_word.specs.Word.{row, instruction, decode}
+use Rattle.vector_word.specs.Writer.{Encoded, admits, encoded}
 use Rattle.vector_word.proofs.Writer.{admitted, narrow, done-admits, refused, written, written-decodes, decoded-is-written}
-use Rattle.vector_listing.specs.declared.Listed.{Listed}
-use Rattle.vector_listing.specs.Listing.{list_number, listed, listed_into}
+use Rattle.vector_listing.specs.Listing.{Listed, list_number, listed, listed_into}
 use Rattle.vector_listing.specs.Text.{text, text_of}
 use Rattle.vector_reader.specs.Reading.{Lists, Reads, ReadFromItsText, OneWordAText, OneAnswer}
 use Rattle.vector_reader.specs.Scan.{kind_in, fields_in}
@@ -32,15 +23,17 @@ found s = encoded (kind_in s) (fields_in (kind_in s) s)
 pub listed-is-found : (s : List ℕ) (word : ℕ) → Lists word s → found s ≡ record { number = 0; word = word }
 listed-is-found s word l = go (decode word) refl l.listed l.text-is
   where
-    go : (w : Word) → decode word ≡ w → list_number 32 w ≡ 0 → text_of w ≡ s → found s ≡ record { number = 0; word = word }
-    go (Known k f) e n t =
+    go : (w : Option Instruction) → decode word ≡ w → list_number 32 w ≡ 0 → text_of w ≡ s → found s ≡ record { number = 0; word = word }
+    go (Some i) e n t =
+        let k = i.kind in
+        let f = i.fields in
         let again = decoded-is-written word l.small k f e in
         let a = admitted (row k) f (done-admits k f (ap (λ (x : Encoded). x.number) again)) in
         ap found (sym t)
         ∙ ap (λ (j : Kind). encoded j (fields_in j (text k f))) (scan-kind k f)
         ∙ ap (encoded k) (scan-fields k f a)
         ∙ again
-    go Unknown e n t = absurd (omega arith)
+    go None e n t = absurd (omega arith)
 
 -- ---- what is written lists as its text
 
@@ -124,11 +117,14 @@ module _ (s : List ℕ) where
 -- ---- the listing that the reader compares with
 
 module _ (k : Kind) (f : Fields) (e : Encoded) (is : e ≡ encoded k f) (n : e.number ≡ 0) (buffer : List ℕ) (room : length buffer ≡ 32) where
-  known : decode e.word ≡ Known k f
+  known : decode e.word ≡ Some (instruction k f)
   known = ap (λ (x : Encoded). decode x.word) is ∙ written-decodes k f (ap (λ (x : Encoded). x.number) (sym is) ∙ n)
 
   pub listed-length : {l : Listed} → l ≡ listed (length buffer) (decode e.word) → l.length ≡ length (text k f)
   listed-length h = ap (λ (x : Listed). x.length) (h ∙ λ i. listed (room i) (known i))
+
+  pub listed-number : {l : Listed} → l ≡ listed (length buffer) (decode e.word) → l.number ≡ 0
+  listed-number h = ap (λ (x : Listed). x.number) (h ∙ λ i. listed (room i) (known i))
 
   pub listed-bytes : {b : List ℕ} → b ≡ listed_into buffer (decode e.word) → b ≡ text k f ++ drop (length (text k f)) buffer
   listed-bytes h =

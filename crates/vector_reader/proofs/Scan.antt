@@ -1,21 +1,13 @@
 -- A text of a word is scanned to its kind and fields (`scan-kind`, `scan-fields`). Assumes nothing.
-use mathlib.Core.Bool.{Bool, true, false, cond}
-use mathlib.Core.List.{List, [], ◌∷◌, ◌++◌}
-use mathlib.Core.Path.{◌≡◌, refl, sym, ap, ap₂, ◌∙◌}
-use Prim.Native.Nat.{ℕ, zero, suc, ◌+◌, ◌*◌, ◌-◌, ◌/◌, ◌%◌, ◌≤◌, ◌<◌}
-use native.Mathlib.Nat.{add-zero, div-add-mod'}
-use native.Mathlib.Omega.{arith}
-use lib.Dec.{eqb, ltb}
-use lib.ListN.{length, drop, get_or, length-drop}
-use lib.Seq.{get_or-drop, drop-drop, drop-append-add}
-use borrow.Author.Tests.{eq-eqb, eqb-true, ltb-true, ltb-false, lt-ltb, le-ltb}
+use Rattle.std.proofs.Common.{Bool, true, false, cond, List, [], ◌∷◌, ◌++◌, ◌≡◌, refl, sym, ap, ap₂, ◌∙◌, ℕ, zero, suc, ◌+◌, ◌*◌, ◌-◌, ◌/◌, ◌%◌, ◌≤◌, ◌<◌, add-zero, div-add-mod', arith, eqb, ltb, length, drop, get_or, length-drop, get_or-drop, drop-drop, eq-eqb, eqb-true, ltb-true, ltb-false, lt-ltb, le-ltb, Option, Some, None}
+use lib.Seq.{drop-append-add}
 use Rattle.vector_kind.specs.declared.Kind.{Kind}
 use Rattle.vector_kind.specs.declared.Kind.TheVariants.{VclmulVv, VclmulVx, VclmulhVv, VclmulhVx, VghshVv, VghshVs, VgmulVv, VgmulVs}
 use Rattle.vector_word.specs.declared.Fields.{Fields}
 use Rattle.vector_word.specs.Word.{row}
 use Rattle.vector_word.proofs.Writer.{Admitted}
 use Rattle.vector_listing.specs.declared.Third.{Third}
-use Rattle.vector_listing.specs.declared.Third.TheVariants.{Vs1, Rs1, Nothing}
+use Rattle.vector_listing.specs.declared.Third.TheVariants.{Vs1, Rs1}
 use Rattle.vector_listing.specs.Text.{ascii, mnemonic, digit, decimal, third_of, third, mask, text}
 use Rattle.vector_listing.proofs.Lengths.{mnemonic-length}
 use Rattle.vector_reader.specs.declared.Scanned.{Scanned}
@@ -99,11 +91,11 @@ no-digit-mask vm = go (eqb vm 0)
     go true = refl
     go false = refl
 
-no-digit-third : (t : Third) (n vm : ℕ) → NoDigit (third t n ++ mask vm)
+no-digit-third : (t : Option Third) (n vm : ℕ) → NoDigit (third t n ++ mask vm)
 unfolding NoDigit
-no-digit-third Vs1 n vm = refl
-no-digit-third Rs1 n vm = refl
-no-digit-third Nothing n vm = no-digit-mask vm
+no-digit-third (Some Vs1) n vm = refl
+no-digit-third (Some Rs1) n vm = refl
+no-digit-third None n vm = no-digit-mask vm
 
 scan-mask : (s : List ℕ) (at vm : ℕ) → vm < 2 → drop at s ≡ mask vm → vm_at s at ≡ vm
 scan-mask s at zero h e =
@@ -117,15 +109,15 @@ scan-mask s at (suc zero) h e =
 scan-mask s at (suc (suc n)) h e = absurd (omega arith)
 
 -- the third operand is there, or the vs1 field is 17
-there : Third → Bool
-there Vs1 = true
-there Rs1 = true
-there Nothing = false
+there : Option Third → Bool
+there (Some Vs1) = true
+there (Some Rs1) = true
+there None = false
 
-Given17 : Third → ℕ → Type 0
-Given17 Vs1 n = Unit {0}
-Given17 Rs1 n = Unit {0}
-Given17 Nothing n = n ≡ 17
+Given17 : Option Third → ℕ → Type 0
+Given17 (Some Vs1) n = Unit {0}
+Given17 (Some Rs1) n = Unit {0}
+Given17 None n = n ≡ 17
 
 has_there : (k : Kind) → has_third k ≡ there (third_of k)
 unfolding there
@@ -156,11 +148,11 @@ module _ (s : List ℕ) (d m : Scanned) (f : Fields) (vm-small : f.vm < 2) (vs1-
       let vm-is = scan-mask s (scanned s (m.end + 3)).end f.vm vm-small found.1 in
       λ i. record { vm = vm-is i; vs2 = vs2-is i; vs1 = found.0 i; vd = vd-is i }
 
-  scan-third : (t : Third) → Given17 t f.vs1 → drop m.end s ≡ third t f.vs1 ++ mask f.vm → fields_after (there t) s d m ≡ f
+  scan-third : (t : Option Third) → Given17 t f.vs1 → drop m.end s ≡ third t f.vs1 ++ mask f.vm → fields_after (there t) s d m ≡ f
   unfolding Given17 there
-  scan-third Vs1 g e = with-third 118 e
-  scan-third Rs1 g e = with-third 120 e
-  scan-third Nothing g e =
+  scan-third (Some Vs1) g e = with-third 118 e
+  scan-third (Some Rs1) g e = with-third 120 e
+  scan-third None g e =
       let vm-is = scan-mask s m.end f.vm vm-small e in
       λ i. record { vm = vm-is i; vs2 = vs2-is i; vs1 = sym g i; vd = vd-is i }
 

@@ -1,8 +1,8 @@
 -- The reader: from exactly the texts of words back to the word (document 02, Ask 1). It is said by the listing alone.
 -- Assumes nothing.
 use Rattle.std.specs.Prelude.{ℕ, ◌^◌, ◌<◌, List, ◌↔◌, ◌≡◌}
-use Rattle.vector_word.specs.declared.Encoded.{Encoded}
 use Rattle.vector_word.specs.Word.{decode}
+use Rattle.vector_word.specs.Writer.{Encoded}
 use Rattle.vector_listing.specs.Listing.{list_number}
 use Rattle.vector_listing.specs.Text.{text_of}
 

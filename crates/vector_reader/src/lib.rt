@@ -3,17 +3,18 @@
 #![tactic(auto)]
 
 ghost use Rattle.std.specs.Prelude.{◌≡◌, ◌+◌, ◌≤◌};
+ghost use Rattle.vector_word.specs.Writer.{answered};
 ghost use Rattle.vector_reader.specs.Scan.{either, kind_in, scanned, operands_at, has_third, vm_at, fields_after, fields_in};
 ghost use Rattle.vector_reader.specs.Reading.{Reads};
 
 use octets::byte_or_zero;
-use octets_slice::same;
-use vector_kind::{Kind, has_vs1_group, is_ghash};
+use refusal::Refusal;
+use vector_kind::Kind;
 use vector_listing::list;
-use vector_word::{Encoded, Fields, encode};
+use vector_word::{Fields, Instruction, encode};
 
 // A number in a text, and the place after it.
-#[derive(Clone, Copy)]
+#[derive(Clone, Copy, PartialEq, Eq)]
 pub struct Scanned {
     pub value: u32,
     pub end: usize,
@@ -23,10 +24,11 @@ pub struct Scanned {
 fn either(s: &[u8], at: usize, b: u8, one: Kind, other: Kind) -> Kind
     ensures { result ≡ either s.now at b one other }
 {
-    if byte_or_zero(s, at) == b as u64 {
-        return one;
+    if byte_or_zero(s, at) == u64::from(b) {
+        one
+    } else {
+        other
     }
-    other
 }
 
 // The kind whose mnemonic a text starts with, if it starts with one.
@@ -66,24 +68,16 @@ fn operands_at(k: Kind) -> usize
     ensures { result ≡ operands_at k }
 {
     match k {
-        Kind::VclmulVv => 11,
-        Kind::VclmulVx => 11,
-        Kind::VclmulhVv => 12,
-        Kind::VclmulhVx => 12,
-        Kind::VghshVv => 10,
-        Kind::VghshVs => 10,
-        Kind::VgmulVv => 10,
-        Kind::VgmulVs => 10,
+        Kind::VclmulVv | Kind::VclmulVx => 11,
+        Kind::VclmulhVv | Kind::VclmulhVx => 12,
+        Kind::VghshVv | Kind::VghshVs | Kind::VgmulVv | Kind::VgmulVs => 10,
     }
 }
 
 fn has_third(k: Kind) -> bool
     ensures { result ≡ has_third k }
 {
-    if has_vs1_group(k) {
-        return true;
-    }
-    !is_ghash(k)
+    k.has_vs1_group() || !k.is_ghash()
 }
 
 fn vm_at(s: &[u8], at: usize) -> u32
@@ -92,25 +86,23 @@ fn vm_at(s: &[u8], at: usize) -> u32
     if at < s.len() { 0 } else { 1 }
 }
 
-// The fields, after vd and vs2.
+// The fields, after vd and vs2. Where there is no third operand the vs1 field is 17.
 fn fields_after(third: bool, s: &[u8], d: Scanned, m: Scanned) -> Fields
     requires { m.end ≤ 32 }
     ensures { result ≡ fields_after third s.now d m }
 {
-    let end = m.end;
-    if third {
-        let n = number_at(s, end + 3);
-        return Fields {
-            vm: vm_at(s, n.end),
-            vs2: m.value,
-            vs1: n.value,
-            vd: d.value,
-        };
-    }
+    let n = if third {
+        number_at(s, m.end + 3)
+    } else {
+        Scanned {
+            value: 17,
+            end: m.end,
+        }
+    };
     Fields {
-        vm: vm_at(s, end),
+        vm: vm_at(s, n.end),
         vs2: m.value,
-        vs1: 17,
+        vs1: n.value,
         vd: d.value,
     }
 }
@@ -120,25 +112,21 @@ fn fields_in(k: Kind, s: &[u8]) -> Fields
     ensures { result ≡ fields_in k s.now }
 {
     let d = number_at(s, operands_at(k));
-    let end = d.end;
-    let m = number_at(s, end + 3);
+    let m = number_at(s, d.end + 3);
     fields_after(has_third(k), s, d, m)
 }
 
-// The reader: the word whose text this is, or 2.
-pub fn read(text: &[u8]) -> Encoded
-    ensures { Reads text.now result }
+// The reader: the word whose text this is.
+pub fn read(text: &[u8]) -> Result<u32, Refusal>
+    ensures { Reads text.now (answered result) }
 {
-    let k = kind_in(text);
-    let e = encode(k, fields_in(k, text));
-    if e.number != 0 {
-        return e;
-    }
+    let kind = kind_in(text);
+    let fields = fields_in(kind, text);
+    let word = encode(Instruction { kind, fields })?;
     let mut buffer = [0u8; 32];
-    let l = list(e.word, &mut buffer);
-    let n = l.length;
-    if same(text, &buffer[..n]) {
-        return e;
+    let n = list(word, &mut buffer)?;
+    if text != &buffer[..n] {
+        return Err(Refusal::NotAWord);
     }
-    Encoded { number: 2, word: 0 }
+    Ok(word)
 }

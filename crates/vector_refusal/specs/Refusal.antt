@@ -1,12 +1,11 @@
 -- Document 01, "Refusal numbers" 0 to 8. Where several apply the smallest is given.
 -- Assumes nothing.
-use Rattle.std.specs.Prelude.{ℕ, ◌%◌, Bool, cond, not, ◌&&◌, ◌||◌, List, [], ◌∷◌, eqb}
+use Rattle.std.specs.Prelude.{ℕ, ◌%◌, Bool, cond, not, ◌&&◌, ◌||◌, List, [], ◌∷◌, Option, Some, None, eqb}
 use Rattle.vector_registers.specs.declared.settings.Settings.{Settings}
 use Rattle.vector_registers.specs.Settings.{misaligned, occupies, applies1, applies3}
 use Rattle.vector_kind.specs.declared.Kind.{Kind}
 use Rattle.vector_word.specs.declared.Fields.{Fields}
-use Rattle.vector_word.specs.declared.Word.{Word}
-use Rattle.vector_word.specs.declared.Word.TheVariants.{Known, Unknown}
+use Rattle.vector_word.specs.declared.Instruction.{Instruction}
 use Rattle.vector_kind.specs.Kinds.{is_ghash, is_vv, is_vs, has_vs1_group}
 use Rattle.vector_word.specs.Word.{decode}
 
@@ -56,12 +55,12 @@ unfoldable pub refusal_of_known : Kind → Fields → Settings → ℕ
 refusal_of_known k f s = first_given (numbers_of_known k f s)
 
 -- 2: the word is none of the eight
-abbrev pub refusal_of_word : Word → Settings → ℕ
-refusal_of_word Unknown s = 2
-refusal_of_word (Known k f) s = refusal_of_known k f s
+abbrev pub refusal_of_word : Option Instruction → Settings → ℕ
+refusal_of_word None s = 2
+refusal_of_word (Some i) s = refusal_of_known i.kind i.fields s
 
 -- the number of a decoded word on a file of this length, and of a word
-abbrev pub refusal_of_decoded : ℕ → Word → Settings → ℕ
+abbrev pub refusal_of_decoded : ℕ → Option Instruction → Settings → ℕ
 refusal_of_decoded file_length w s = cond (applies1 file_length s.vlen) 1 (refusal_of_word w s)
 
 unfoldable pub refusal_of : ℕ → ℕ → Settings → ℕ

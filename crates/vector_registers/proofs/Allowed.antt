@@ -1,19 +1,13 @@
 -- What holds of each allowed VLEN, SEW or LMUL holds of one that is allowed (`each-vlen`, `each-sew`, `each-lmul`); and what an allowed
--- LMUL tells of its groups (`group-registers`, `times-lmul`).
+-- LMUL tells of its groups (`each-group`, `times-lmul`).
 -- Assumes nothing.
-use Prim.Native.Nat.{ℕ, ◌*◌, ◌≤◌}
-use mathlib.Core.Bool.{true, ◌||◌}
-use mathlib.Core.Logic.{⊎_elim}
-use mathlib.Core.Path.{◌≡◌, subst⁻¹}
-use native.Mathlib.Nat.{le_refl}
-use borrow.Author.Tests.{eqb-true}
-use lib.Dec.{eqb}
+use Rattle.std.proofs.Common.{◌≡◌, ℕ, ◌*◌, ◌≤◌, true, ◌||◌, eqb, subst, sym, ⊎_elim, le_refl, eqb-true}
 use Rattle.vector_registers.specs.Settings.{one_of, vlen_allowed, sew_allowed, lmul_allowed, group_registers, times_lmul}
 use Rattle.vector_word.proofs.Tests.{or-true}
 
 module _ (P : ℕ → Type 0) (v : ℕ) where
   at : (n : ℕ) → P n → eqb v n ≡ true → P v
-  at n p e = subst⁻¹ P (eqb-true v n e) p
+  at n p e = subst P (sym (eqb-true v n e)) p
 
   each_of : (a b c d : ℕ) → P a → P b → P c → P d → one_of v a b c d ≡ true → P v
   each_of a b c d pa pb pc pd h =

@@ -1,9 +1,9 @@
 // The settings of a call: what is allowed, and what follows from it.
 ghost use Rattle.std.specs.Prelude.{◌≡◌};
-ghost use Rattle.vector_registers.specs.Settings.{one_of, vlen_allowed, sew_allowed, lmul_allowed, group_registers, times_lmul, vlmax, register_bytes, file_bytes, group_length, misaligned, occupies, applies1, applies3};
+ghost use Rattle.vector_registers.specs.Settings.{vlen_allowed, sew_allowed, lmul_allowed, group_registers, times_lmul, vlmax, register_bytes, file_bytes, group_length, misaligned, occupies, applies1, applies3};
 
 // What the host sets before a word: VLEN and SEW in bits, LMUL in registers, tail and mask agnostic (vtype's vta and vma), vl and vstart
-// in elements.
+// in elements. Numbers and no enums: the host may pass any, and which are allowed is asked below.
 #[derive(Clone, Copy)]
 pub struct Settings {
     pub vlen: u32,
@@ -21,43 +21,21 @@ pub struct Settings {
 fn vlen_allowed(vlen: u32) -> bool
     ensures { result ≡ vlen_allowed vlen }
 {
-    if vlen == 128 {
-        return true;
-    }
-    if vlen == 256 {
-        return true;
-    }
-    vlen == 512
-}
-
-// v is a, b, c or d.
-fn one_of(v: u32, a: u32, b: u32, c: u32, d: u32) -> bool
-    ensures { result ≡ one_of v a b c d }
-{
-    if v == a {
-        return true;
-    }
-    if v == b {
-        return true;
-    }
-    if v == c {
-        return true;
-    }
-    v == d
+    matches!(vlen, 128 | 256 | 512)
 }
 
 // SEW is 8, 16, 32 or 64.
 fn sew_allowed(sew: u32) -> bool
     ensures { result ≡ sew_allowed sew }
 {
-    one_of(sew, 8, 16, 32, 64)
+    matches!(sew, 8 | 16 | 32 | 64)
 }
 
 // LMUL is 1, 2, 4 or 8.
 pub fn lmul_allowed(lmul: u32) -> bool
     ensures { result ≡ lmul_allowed lmul }
 {
-    one_of(lmul, 1, 2, 4, 8)
+    matches!(lmul, 1 | 2 | 4 | 8)
 }
 
 // How many registers a group has.
@@ -71,17 +49,16 @@ fn group_registers(lmul: u32) -> u32
 fn times_lmul(lmul: u32, n: u32) -> u64
     ensures { result ≡ times_lmul lmul n }
 {
-    (lmul as u64) * (n as u64)
+    u64::from(lmul) * u64::from(n)
 }
 
 // VLMAX; 0 where SEW is 0.
 fn vlmax(vlen: u32, sew: u32, lmul: u32) -> u64
     ensures { result ≡ vlmax vlen sew lmul }
 {
-    if sew == 0 {
-        return 0;
-    }
-    times_lmul(lmul, vlen) / (sew as u64)
+    times_lmul(lmul, vlen)
+        .checked_div(u64::from(sew))
+        .unwrap_or(0)
 }
 
 // The bytes of a register.
@@ -109,21 +86,14 @@ pub fn group_length(vlen: u32, lmul: u32) -> usize
 pub fn misaligned(lmul: u32, register: u32) -> bool
     ensures { result ≡ misaligned lmul register }
 {
-    let registers = group_registers(lmul);
-    if registers == 0 {
-        return register != 0;
-    }
-    register % registers != 0
+    !register.is_multiple_of(group_registers(lmul))
 }
 
 // The group whose first register this is occupies a register.
 pub fn occupies(lmul: u32, first: u32, register: u32) -> bool
     ensures { result ≡ occupies lmul first register }
 {
-    if register < first {
-        return false;
-    }
-    (register as u64) < (first as u64) + (group_registers(lmul) as u64)
+    first <= register && u64::from(register) < u64::from(first) + u64::from(group_registers(lmul))
 }
 
 // ---- the numbers that no word is needed for, in the table's words
@@ -132,21 +102,12 @@ pub fn occupies(lmul: u32, first: u32, register: u32) -> bool
 pub fn applies_1(file_len: usize, vlen: u32) -> bool
     ensures { result ≡ applies1 file_len vlen }
 {
-    if !vlen_allowed(vlen) {
-        return true;
-    }
-    file_len != file_bytes(vlen)
+    !vlen_allowed(vlen) || file_len != file_bytes(vlen)
 }
 
 // SEW or LMUL not allowed, or vl over VLMAX.
 pub fn applies_3(s: Settings) -> bool
     ensures { result ≡ applies3 s }
 {
-    if !sew_allowed(s.sew) {
-        return true;
-    }
-    if !lmul_allowed(s.lmul) {
-        return true;
-    }
-    vlmax(s.vlen, s.sew, s.lmul) < s.vl as u64
+    !sew_allowed(s.sew) || !lmul_allowed(s.lmul) || vlmax(s.vlen, s.sew, s.lmul) < u64::from(s.vl)
 }

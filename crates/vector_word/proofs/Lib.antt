@@ -1,2 +1,4 @@
+pub mod Refusals
+pub mod Rows
 pub mod Tests
 pub mod Writer

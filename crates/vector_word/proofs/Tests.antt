@@ -1,21 +1,8 @@
--- Early returns against the tests of a definition: a test that decides gives the answer `here`, any other leaves it to the `next`.
+-- Tests against those of a definition: a test that decides gives the answer `here`, any other leaves it to the `next`.
 -- Assumes nothing.
-use Prim.Native.Nat.{ℕ, ◌<◌}
-use mathlib.Core.Bool.{Bool, true, false, true≢false, cond, ◌&&◌, ◌||◌}
-use mathlib.Core.Logic.{◌⊎◌, inl, inr}
-use mathlib.Core.Path.{◌≡◌, refl, sym, ap, ◌∙◌}
-use native.Mathlib.Omega.{arith}
+use Rattle.std.proofs.Common.{ℕ, ◌<◌, Bool, true, false, true≢false, cond, ◌&&◌, ◌||◌, ◌⊎◌, inl, inr, ◌≡◌, refl, sym, ap, ◌∙◌, arith}
 
 module _ (a b : Bool) where
-  pub or-here : a ≡ true → true ≡ (a || b)
-  or-here h = rw h
-
-  pub or-next : {r : Bool} → a ≡ false → r ≡ b → r ≡ (a || b)
-  or-next h e = rw h e
-
-  pub and-here : a ≡ false → false ≡ (a && b)
-  and-here h = rw h
-
   pub and-next : {r : Bool} → a ≡ true → r ≡ b → r ≡ (a && b)
   and-next h e = rw h e
 

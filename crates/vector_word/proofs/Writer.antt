@@ -1,21 +1,15 @@
 -- Writer and decoder undo each other (`written-decodes`, `decoded-is-written`); and what it tells of a row that it admits fields.
 -- Assumes nothing.
-use mathlib.Core.Bool.{Bool, true, false, cond, ◌&&◌, and-eq-true_iff}
-use mathlib.Core.List.{List, [], ◌∷◌}
-use mathlib.Core.Path.{◌≡◌, refl, sym, ap, subst, ◌∙◌}
-use Prim.Native.Nat.{ℕ, ◌+◌, ◌*◌, ◌/◌, ◌^◌, ◌<◌}
-use native.Mathlib.Omega.{arith}
-use lib.Dec.{eqb, ltb}
-use borrow.Author.Tests.{eqb-true, ltb-true, lt-ltb}
+use Rattle.std.proofs.Common.{Bool, true, false, cond, ◌&&◌, List, [], ◌∷◌, Option, Some, None, ◌≡◌, refl, sym, ap, subst, ◌∙◌, ℕ, ◌+◌, ◌*◌, ◌/◌, ◌^◌, ◌<◌, arith, eqb, ltb, eqb-true, ltb-true, lt-ltb}
+use mathlib.Core.Bool.{and-eq-true_iff}
 use Rattle.vector_kind.specs.declared.Kind.{Kind}
 use Rattle.vector_kind.specs.declared.Kind.TheVariants.{VclmulVv, VclmulVx, VclmulhVv, VclmulhVx, VghshVv, VghshVs, VgmulVv, VgmulVs}
-use Rattle.vector_word.specs.declared.Encoded.{Encoded}
+use Rattle.vector_kind.specs.Kinds.{kinds}
 use Rattle.vector_word.specs.declared.Fields.{Fields}
+use Rattle.vector_word.specs.declared.Instruction.{Instruction}
 use Rattle.vector_word.specs.declared.Row.{Row}
-use Rattle.vector_word.specs.declared.Word.{Word}
-use Rattle.vector_word.specs.declared.Word.TheVariants.{Known, Unknown}
-use Rattle.vector_word.specs.Word.{row, allows, is_row, fields_of, funct6_of, vm_of, vs2_of, vs1_of, funct3_of, vd_of, opcode_of, as_kind, among, kinds, decode}
-use Rattle.vector_word.specs.Writer.{Narrow, admits, word_of, encoded, WrittenDecodes, DecodedIsWritten}
+use Rattle.vector_word.specs.Word.{row, allows, is_row, fields_of, funct6_of, vm_of, vs2_of, vs1_of, funct3_of, vd_of, opcode_of, instruction, as_kind, among, decode}
+use Rattle.vector_word.specs.Writer.{Encoded, Narrow, admits, word_of, encoded, WrittenDecodes, DecodedIsWritten}
 use Rattle.vector_word.proofs.Tests.{and-next}
 
 -- ---- tests that hold
@@ -101,11 +95,11 @@ written k f h e = λ i. record { number = cond (sym h i) 0 2; word = (e ∙ λ j
 -- ---- whatever is written decodes
 
 -- the decoder goes by five parts of a word; the fields are handed on
-picked_by : (funct6 vm vs1 funct3 opcode : ℕ) → Fields → List Kind → Word
-picked_by funct6 vm vs1 funct3 opcode f [] = Unknown
+picked_by : (funct6 vm vs1 funct3 opcode : ℕ) → Fields → List Kind → Option Instruction
+picked_by funct6 vm vs1 funct3 opcode f [] = None
 picked_by funct6 vm vs1 funct3 opcode f (k ∷ ks) =
     cond (eqb funct6 (row k).funct6 && (allows (row k).vm vm && (allows (row k).vs1 vs1 && (eqb funct3 (row k).funct3 && eqb opcode (row k).opcode))))
-    (Known k f) (picked_by funct6 vm vs1 funct3 opcode f ks)
+    (Some (instruction k f)) (picked_by funct6 vm vs1 funct3 opcode f ks)
 
 picked : (w : ℕ) (ks : List Kind) → among ks w ≡ picked_by (funct6_of w) (vm_of w) (vs1_of w) (funct3_of w) (opcode_of w) (fields_of w) ks
 unfolding picked_by
@@ -114,7 +108,7 @@ picked w (k ∷ ks) = ap (as_kind k w) (picked w ks)
 
 -- no two rows have the same funct6, funct3 and opcode
 finds : (k : Kind) (f : Fields) → Admitted (row k) f
-    → picked_by (row k).funct6 f.vm f.vs1 (row k).funct3 (row k).opcode f kinds ≡ Known k f
+    → picked_by (row k).funct6 f.vm f.vs1 (row k).funct3 (row k).opcode f kinds ≡ Some (instruction k f)
 unfolding picked_by
 finds VclmulVv f a = refl
 finds VclmulVx f a = refl
@@ -146,20 +140,26 @@ written-decodes k f e =
 
 -- ---- every word that decodes is written again
 
-pub among-row : (ks : List Kind) (w : ℕ) {k : Kind} {f : Fields} → among ks w ≡ Known k f → (is_row (row k) w ≡ true) × (fields_of w ≡ f)
+-- an instruction tells its kind and its fields
+pub same_instruction : {j k : Kind} {e f : Fields} → Some (instruction j e) ≡ Some (instruction k f) → (j ≡ k) × (e ≡ f)
+same_instruction {j} {k} {e} {f} h =
+    let same : instruction j e ≡ instruction k f = cc in
+    (ap (λ (i : Instruction). i.kind) same, ap (λ (i : Instruction). i.fields) same)
+
+pub among-row : (ks : List Kind) (w : ℕ) {k : Kind} {f : Fields} → among ks w ≡ Some (instruction k f) → (is_row (row k) w ≡ true) × (fields_of w ≡ f)
 among-row [] w e = let z : ◌≡◌ {A = ℕ} 0 1 = cc in absurd (omega arith)
 among-row (a ∷ ks) w {k} {f} e = go (is_row (row a) w) refl (among-row ks w) e
   where
-    go : (b : Bool) → is_row (row a) w ≡ b → (among ks w ≡ Known k f → (is_row (row k) w ≡ true) × (fields_of w ≡ f))
-        → cond b (Known a (fields_of w)) (among ks w) ≡ Known k f → (is_row (row k) w ≡ true) × (fields_of w ≡ f)
-    go true t rest e = let same : a ≡ k = cc in (ap (λ (j : Kind). is_row (row j) w) (sym same) ∙ t, cc)
+    go : (b : Bool) → is_row (row a) w ≡ b → (among ks w ≡ Some (instruction k f) → (is_row (row k) w ≡ true) × (fields_of w ≡ f))
+        → cond b (Some (instruction a (fields_of w))) (among ks w) ≡ Some (instruction k f) → (is_row (row k) w ≡ true) × (fields_of w ≡ f)
+    go true t rest e = let same = same_instruction e in (ap (λ (j : Kind). is_row (row j) w) (sym same.0) ∙ t, same.1)
     go false t rest e = rest e
 
 -- a word's own fields fit
 pub fields_fit : (w : ℕ) → FieldsFit (fields_of w)
 fields_fit w = record { vm = omega arith; vs2 = omega arith; vs1 = omega arith; vd = omega arith }
 
-pub decoded-fit : (w : ℕ) {k : Kind} {f : Fields} → decode w ≡ Known k f → FieldsFit f
+pub decoded-fit : (w : ℕ) {k : Kind} {f : Fields} → decode w ≡ Some (instruction k f) → FieldsFit f
 unfolding decode
 decoded-fit w e = subst FieldsFit (among-row kinds w e).1 (fields_fit w)
 

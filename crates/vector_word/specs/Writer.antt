@@ -1,12 +1,21 @@
 -- The writer: from a kind and its fields to the 32-bit word, by the rows of document 01's table (document 02, Ask 1).
 -- Assumes nothing.
-use Rattle.std.specs.Prelude.{ℕ, ◌+◌, ◌*◌, ◌^◌, ◌<◌, Bool, cond, ◌&&◌, ◌≡◌, ltb}
+use Rattle.std.specs.Prelude.{ℕ, ◌+◌, ◌*◌, ◌^◌, ◌<◌, Bool, cond, ◌&&◌, ◌≡◌, ltb, Result, Ok, Err, Some}
+use Rattle.refusal.specs.Refusal.{number}
+use Rattle.refusal.specs.declared.Refusal.{Refusal}
 use Rattle.vector_kind.specs.declared.Kind.{Kind}
-use Rattle.vector_word.specs.declared.Encoded.{Encoded}
 use Rattle.vector_word.specs.declared.Fields.{Fields}
 use Rattle.vector_word.specs.declared.Row.{Row}
-use Rattle.vector_word.specs.declared.Word.TheVariants.{Known}
-use Rattle.vector_word.specs.Word.{row, allows, decode}
+use Rattle.vector_word.specs.Word.{row, allows, instruction, decode}
+
+-- what the writer answers, as C has it: the number, and the word, which is 0 where the number is not
+pub record Encoded : Type 0 where
+  pub number : ℕ
+  pub word : ℕ
+
+abbrev pub answered : Result ℕ Refusal → Encoded
+answered (Ok word) = record { number = 0; word = word }
+answered (Err refusal) = record { number = number refusal; word = 0 }
 
 -- each field has its bits, and the row allows vm and the vs1 field
 abbrev pub admits : Row → Fields → Bool
@@ -36,11 +45,11 @@ encoded k f = record { number = cond (admits (row k) f) 0 2; word = cond (admits
 
 -- whatever is written decodes to the same kind and fields
 abbrev pub WrittenDecodes : Type 0
-WrittenDecodes = (k : Kind) (f : Fields) → (encoded k f).number ≡ 0 → decode (encoded k f).word ≡ Known k f
+WrittenDecodes = (k : Kind) (f : Fields) → (encoded k f).number ≡ 0 → decode (encoded k f).word ≡ Some (instruction k f)
 
 -- every 32-bit word that decodes is written again from its kind and fields, bit for bit
 abbrev pub DecodedIsWritten : Type 0
-DecodedIsWritten = (word : ℕ) → word < 2 ^ 32 → (k : Kind) (f : Fields) → decode word ≡ Known k f → encoded k f ≡ record { number = 0; word = word }
+DecodedIsWritten = (word : ℕ) → word < 2 ^ 32 → (k : Kind) (f : Fields) → decode word ≡ Some (instruction k f) → encoded k f ≡ record { number = 0; word = word }
 
 -- ---- what the function that puts the parts together asks
 

@@ -2,13 +2,16 @@
 #![tactic(auto)]
 
 ghost use Rattle.std.specs.Prelude.{◌≡◌};
-ghost use Rattle.vector_word.specs.Word.{row_with, row, allows, is_row, fields_of, as_kind, decode};
-ghost use Rattle.vector_word.specs.Writer.{admits, word_of, Narrow, encoded};
+ghost use Rattle.std.specs.List.{find};
+ghost use Rattle.vector_kind.specs.Kinds.{kinds};
+ghost use Rattle.vector_word.specs.Word.{row_with, row, allows, is_row, fields_of, decode};
+ghost use Rattle.vector_word.specs.Writer.{admits, word_of, Narrow, encoded, answered};
 
+use refusal::Refusal;
 use vector_kind::Kind;
 
-// The fields that a word of any kind has; vs1 is rs1 in a .vx word.
-#[derive(Clone, Copy)]
+// The fields that a word of any kind has; vs1 is rs1 in a .vx word. Numbers of any size: the writer refuses those that no word has.
+#[derive(Clone, Copy, PartialEq, Eq)]
 pub struct Fields {
     pub vm: u32,
     pub vs2: u32,
@@ -16,33 +19,26 @@ pub struct Fields {
     pub vd: u32,
 }
 
-// A word of one of the eight kinds with its fields, or none of them.
-#[derive(Clone, Copy)]
-pub enum Word {
-    Known(Kind, Fields),
-    Unknown,
+// A word of one of the eight kinds: its kind and its fields.
+#[derive(Clone, Copy, PartialEq, Eq)]
+pub struct Instruction {
+    pub kind: Kind,
+    pub fields: Fields,
 }
 
-// What a row of the table says of a field.
-#[derive(Clone, Copy)]
-pub enum Given {
-    Any,
-    Is(u32),
-}
-
-// A row of the table, a field for each column.
-#[derive(Clone, Copy)]
+// A row of the table, a field for each column. Where it gives no vm or vs1, any is allowed.
+#[derive(Clone, Copy, PartialEq, Eq)]
 pub struct Row {
     pub funct6: u32,
-    pub vm: Given,
-    pub vs1: Given,
+    pub vm: Option<u32>,
+    pub vs1: Option<u32>,
     pub funct3: u32,
     pub opcode: u32,
 }
 
 impl Row {
     // funct6, vm, vs1 field, funct3, opcode.
-    fn new(funct6: u32, vm: Given, vs1: Given, funct3: u32, opcode: u32) -> Self
+    fn new(funct6: u32, vm: Option<u32>, vs1: Option<u32>, funct3: u32, opcode: u32) -> Self
         ensures { result ≡ row_with funct6 vm vs1 funct3 opcode }
     {
         Self {
@@ -53,53 +49,70 @@ impl Row {
             opcode,
         }
     }
-}
 
-// The kind's row of the table.
-fn row_of(k: Kind) -> Row
-    ensures { result ≡ row k }
-{
-    match k {
-        Kind::VclmulVv => Row::new(0b001100, Given::Any, Given::Any, 0b010, 0b1010111),
-        Kind::VclmulVx => Row::new(0b001100, Given::Any, Given::Any, 0b110, 0b1010111),
-        Kind::VclmulhVv => Row::new(0b001101, Given::Any, Given::Any, 0b010, 0b1010111),
-        Kind::VclmulhVx => Row::new(0b001101, Given::Any, Given::Any, 0b110, 0b1010111),
-        Kind::VghshVv => Row::new(0b101100, Given::Is(1), Given::Any, 0b010, 0b1110111),
-        Kind::VghshVs => Row::new(0b100011, Given::Is(1), Given::Any, 0b010, 0b1110111),
-        Kind::VgmulVv => Row::new(0b101000, Given::Is(1), Given::Is(0b10001), 0b010, 0b1110111),
-        Kind::VgmulVs => Row::new(0b101001, Given::Is(1), Given::Is(0b10001), 0b010, 0b1110111),
+    // The kind's row of the table.
+    fn of(k: Kind) -> Self
+        ensures { result ≡ row k }
+    {
+        match k {
+            Kind::VclmulVv => Row::new(0b001100, None, None, 0b010, 0b1010111),
+            Kind::VclmulVx => Row::new(0b001100, None, None, 0b110, 0b1010111),
+            Kind::VclmulhVv => Row::new(0b001101, None, None, 0b010, 0b1010111),
+            Kind::VclmulhVx => Row::new(0b001101, None, None, 0b110, 0b1010111),
+            Kind::VghshVv => Row::new(0b101100, Some(1), None, 0b010, 0b1110111),
+            Kind::VghshVs => Row::new(0b100011, Some(1), None, 0b010, 0b1110111),
+            Kind::VgmulVv => Row::new(0b101000, Some(1), Some(0b10001), 0b010, 0b1110111),
+            Kind::VgmulVs => Row::new(0b101001, Some(1), Some(0b10001), 0b010, 0b1110111),
+        }
+    }
+
+    // The word has the row's fields.
+    fn is_of(self, word: u32) -> bool
+        ensures { result ≡ is_row self word }
+    {
+        // By itself, so that the rows' tests compile to one switch: as the first of the tests below, decoding took up to twice as long.
+        if (word >> 26) % 64 != self.funct6 {
+            return false;
+        }
+        let fields = fields_of(word);
+        allows(self.vm, fields.vm)
+            && allows(self.vs1, fields.vs1)
+            && (word >> 12) % 8 == self.funct3
+            && word % 128 == self.opcode
+    }
+
+    // Whether a word with this row can have these fields.
+    fn admits(self, f: Fields) -> bool
+        ensures { result ≡ admits self f }
+    {
+        f.vm < 2
+            && f.vs2 < 32
+            && f.vs1 < 32
+            && f.vd < 32
+            && allows(self.vm, f.vm)
+            && allows(self.vs1, f.vs1)
+    }
+
+    // The row's and the given fields, each at its place.
+    fn word_of(self, f: Fields) -> u32
+        requires { Narrow self f }
+        ensures { result ≡ word_of self f }
+    {
+        self.funct6 * 0x400_0000
+            + f.vm * 0x200_0000
+            + f.vs2 * 0x10_0000
+            + f.vs1 * 0x8000
+            + self.funct3 * 0x1000
+            + f.vd * 0x80
+            + self.opcode
     }
 }
 
 // A field's value is one that the row allows.
-fn allows(g: Given, value: u32) -> bool
-    ensures { result ≡ allows g value }
+fn allows(given: Option<u32>, value: u32) -> bool
+    ensures { result ≡ allows given value }
 {
-    match g {
-        Given::Any => true,
-        Given::Is(n) => value == n,
-    }
-}
-
-// The word has the row's fields.
-fn is_row(r: Row, word: u32) -> bool
-    ensures { result ≡ is_row r word }
-{
-    let vm = r.vm;
-    let vs1 = r.vs1;
-    if (word >> 26) % 64 != r.funct6 {
-        return false;
-    }
-    if !allows(vm, (word >> 25) % 2) {
-        return false;
-    }
-    if !allows(vs1, (word >> 15) % 32) {
-        return false;
-    }
-    if (word >> 12) % 8 != r.funct3 {
-        return false;
-    }
-    word % 128 == r.opcode
+    given.is_none_or(|n| value == n)
 }
 
 // The fields of a word.
@@ -114,85 +127,32 @@ pub fn fields_of(word: u32) -> Fields
     }
 }
 
-// The word as one of this kind where it has the kind's row, else what the other rows make of it.
-fn as_kind(k: Kind, word: u32, other: Word) -> Word
-    ensures { result ≡ as_kind k word other }
+// The first kind whose row the word has.
+fn kind_of(word: u32) -> Option<Kind>
+    ensures { result ≡ find (λ k. is_row (row k) word) kinds }
 {
-    if is_row(row_of(k), word) {
-        return Word::Known(k, fields_of(word));
-    }
-    other
+    Kind::ALL.iter().copied().find(|k| Row::of(*k).is_of(word))
 }
 
-// The kind of a word and its fields. The rows are tried from the last to the first, so the first that admits decides.
-pub fn decode(word: u32) -> Word
+// The kind of a word and its fields, by the first row that the word has.
+#[tactic(auto, using(crate::proofs::Rows::decode_found))]
+pub fn decode(word: u32) -> Option<Instruction>
     ensures { result ≡ decode word }
 {
-    let w = as_kind(Kind::VgmulVs, word, Word::Unknown);
-    let w = as_kind(Kind::VgmulVv, word, w);
-    let w = as_kind(Kind::VghshVs, word, w);
-    let w = as_kind(Kind::VghshVv, word, w);
-    let w = as_kind(Kind::VclmulhVx, word, w);
-    let w = as_kind(Kind::VclmulhVv, word, w);
-    let w = as_kind(Kind::VclmulVx, word, w);
-    as_kind(Kind::VclmulVv, word, w)
+    let kind = kind_of(word)?;
+    Some(Instruction {
+        kind,
+        fields: fields_of(word),
+    })
 }
 
-// What the writer answers: the number, and the word, which is 0 where the number is not.
-#[derive(Clone, Copy)]
-pub struct Encoded {
-    pub number: u32,
-    pub word: u32,
-}
-
-// Whether a word with this row can have these fields.
-fn admits(r: Row, f: Fields) -> bool
-    ensures { result ≡ admits r f }
+// The writer: the word of this kind with these fields.
+pub fn encode(i: Instruction) -> Result<u32, Refusal>
+    ensures { answered result ≡ encoded i.kind i.fields }
 {
-    let vm = r.vm;
-    let vs1 = r.vs1;
-    if 2 <= f.vm {
-        return false;
+    let r = Row::of(i.kind);
+    if !r.admits(i.fields) {
+        return Err(Refusal::NotAWord);
     }
-    if 32 <= f.vs2 {
-        return false;
-    }
-    if 32 <= f.vs1 {
-        return false;
-    }
-    if 32 <= f.vd {
-        return false;
-    }
-    if !allows(vm, f.vm) {
-        return false;
-    }
-    allows(vs1, f.vs1)
-}
-
-// The row's and the given fields, each at its place.
-fn word_of(r: Row, f: Fields) -> u32
-    requires { Narrow r f }
-    ensures { result ≡ word_of r f }
-{
-    r.funct6 * 0x400_0000
-        + f.vm * 0x200_0000
-        + f.vs2 * 0x10_0000
-        + f.vs1 * 0x8000
-        + r.funct3 * 0x1000
-        + f.vd * 0x80
-        + r.opcode
-}
-
-// The writer: the word of this kind with these fields, or 2.
-pub fn encode(k: Kind, f: Fields) -> Encoded
-    ensures { result ≡ encoded k f }
-{
-    let r = row_of(k);
-    if !admits(r, f) {
-        return Encoded { number: 2, word: 0 };
-    }
-    Encoded {
-        number: 0,
-        word: word_of(r, f),
-    }
+    Ok(r.word_of(i.fields))
 }

@@ -1,29 +1,23 @@
 -- With both policies off the executor is the old one (`same-without-policies`).
 -- Assumes nothing.
-use mathlib.Core.Bool.{Bool, true, false, cond}
-use mathlib.Core.List.{List}
-use mathlib.Core.Path.{◌≡◌, refl, ap, ◌∙◌}
-use Prim.Native.Nat.{ℕ}
-use lib.Dec.{eqb, leb}
-use lib.ListN.{length}
+use Rattle.std.proofs.Common.{Option, Some, None, Bool, true, false, cond, List, ◌≡◌, refl, ap, ◌∙◌, ℕ, eqb, leb, length}
 use Rattle.vector_kind.specs.declared.Kind.{Kind}
 use Rattle.vector_kind.specs.declared.Kind.TheVariants.{VclmulVv, VclmulVx, VclmulhVv, VclmulhVx, VghshVv, VghshVs, VgmulVv, VgmulVs}
 use Rattle.vector_word.specs.declared.Fields.{Fields}
-use Rattle.vector_word.specs.declared.Word.{Word}
-use Rattle.vector_word.specs.declared.Word.TheVariants.{Known, Unknown}
+use Rattle.vector_word.specs.declared.Instruction.{Instruction}
 use Rattle.vector_word.specs.Word.{decode}
 use Rattle.vector_refusal.specs.Refusal.{refusal_of_known, refusal_of_decoded, refusal_of}
 use Rattle.vector_clmul.specs.Carryless.{carryless_result, carryless_step, carryless}
 use Rattle.vector_ghash.specs.GhashWords.{vv_step, vs_step, ghash_vv, ghash_vs}
 use Rattle.vector_fill.specs.Fill.{mask_filled, tail_filled, filled}
 use Rattle.vector_execute.specs.Execute.{done_known, done, executed}
-use Rattle.without_policies.specs.Executor.{OldSettings, policies_off, old1, old_refusal_of_word, old_refusal_of, old_carryless, old_ghash, old_done, old_executed, SameWithoutPolicies}
+use Rattle.without_policies.specs.Executor.{OldSettings, policies_off, old1, old_refusal_of_word, old_refusal_of, old_carryless, old_ghash, old_done_known, old_done, old_executed, SameWithoutPolicies}
 
 module _ (s : OldSettings) where
-  number : (file_length : ℕ) (w : Word) → refusal_of_decoded file_length w (policies_off s) ≡ cond (old1 file_length s) 1 (old_refusal_of_word w s)
+  number : (file_length : ℕ) (w : Option Instruction) → refusal_of_decoded file_length w (policies_off s) ≡ cond (old1 file_length s) 1 (old_refusal_of_word w s)
   unfolding refusal_of_known
-  number file_length Unknown = refl
-  number file_length (Known k f) = refl
+  number file_length None = refl
+  number file_length (Some i) = refl
 
   -- nothing is filled
   off : (f : Fields) (g : List ℕ) → filled f (policies_off s) g ≡ g
@@ -34,7 +28,7 @@ module _ (s : OldSettings) where
       go true = refl
       go false = refl
 
-  units : (k : Kind) (f : Fields) (scalar : ℕ) (file : List ℕ) → done_known k f (policies_off s) scalar file ≡ old_done (Known k f) s scalar file
+  units : (k : Kind) (f : Fields) (scalar : ℕ) (file : List ℕ) → done_known k f (policies_off s) scalar file ≡ old_done_known k f s scalar file
   unfolding carryless_result carryless_step carryless vv_step vs_step ghash_vv ghash_vs old_carryless old_ghash
   units VclmulVv f scalar file = refl
   units VclmulVx f scalar file = refl
@@ -45,9 +39,9 @@ module _ (s : OldSettings) where
   units VgmulVv f scalar file = refl
   units VgmulVs f scalar file = refl
 
-  word_same : (w : Word) (scalar : ℕ) (file : List ℕ) → done w (policies_off s) scalar file ≡ old_done w s scalar file
-  word_same Unknown scalar file = refl
-  word_same (Known k f) scalar file = off f (done_known k f (policies_off s) scalar file) ∙ units k f scalar file
+  word_same : (w : Option Instruction) (scalar : ℕ) (file : List ℕ) → done w (policies_off s) scalar file ≡ old_done w s scalar file
+  word_same None scalar file = refl
+  word_same (Some i) scalar file = off i.fields (done_known i.kind i.fields (policies_off s) scalar file) ∙ units i.kind i.fields scalar file
 
 pub same-without-policies : SameWithoutPolicies
 unfolding refusal_of executed old_refusal_of old_executed

@@ -1,13 +1,6 @@
 -- Replay of a trace whose zero bytes are zero is the old replay (`old-traces-same`): each of its records is a call with both policies off.
 -- Assumes nothing.
-use Prim.Native.Nat.{ℕ, zero, suc, ◌+◌, ◌/◌, ◌%◌}
-use mathlib.Core.Bool.{Bool, true, cond}
-use mathlib.Core.List.{List}
-use mathlib.Core.Path.{◌≡◌, refl, ap, ap₂, ◌∙◌}
-use native.Mathlib.Omega.{arith}
-use borrow.Author.Tests.{eqb-true, le-leb}
-use lib.Dec.{eqb}
-use lib.ListN.{length}
+use Rattle.std.proofs.Common.{ℕ, zero, suc, ◌+◌, ◌/◌, ◌%◌, Err, Bool, true, cond, List, ◌≡◌, refl, ap, ap₂, ◌∙◌, arith, eqb-true, le-leb, eqb, length}
 use Rattle.octets.specs.LittleEndian.{read_le}
 use Rattle.octets.proofs.Tests.{both}
 use Rattle.vector_registers.specs.declared.settings.Settings.{Settings}
@@ -18,7 +11,7 @@ use Rattle.without_policies.proofs.Executor.{same-without-policies}
 use Rattle.trace_record.specs.Record.{record_at, records_from}
 use Rattle.trace_policy.specs.Policy.{vta_of, vma_of}
 use Rattle.trace_form.specs.Form.{policies_from, well_formed}
-use Rattle.trace_replay.specs.declared.Replayed.TheVariants.{Differs}
+use Rattle.trace_replay.specs.declared.Stopped.TheVariants.{Differs}
 use Rattle.trace_replay.specs.Replay.{settings_of, agrees, called, Outcome, replay_from, replayed}
 use Rattle.without_policies.specs.Traces.{OldRecord, old_record_at, old_settings_of, old_agrees, old_called, old_replay_from, old_zeros, OldTracesSame, OldTracesTaken}
 
@@ -66,7 +59,7 @@ module _ (vlen : ℕ) (trace : List ℕ) where
   from-same zero at i file h = refl
   from-same (suc n) at i file h =
       let p = first-zero n at h in
-      let here : Outcome = record { answer = Differs i; file = file } in
+      let here : Outcome = record { answer = Err (Differs i); file = file } in
       let next = old_called vlen (old_record_at trace at) file in
       ap₂ (λ (b : Bool) (g : List ℕ). cond b (replay_from vlen (records_from n trace (at + 24)) (i + 1) g) here)
       (agrees-same vlen trace at p.0 file) (called_same vlen trace at p.0 file)

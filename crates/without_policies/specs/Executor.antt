@@ -2,7 +2,7 @@
 -- elements it had, kept here so that `SameWithoutPolicies` compares two definitions. What takes no settings is cited: words, places,
 -- products, and numbers in bytes.
 -- Assumes nothing.
-use Rattle.std.specs.Prelude.{ℕ, ◌+◌, ◌-◌, ◌*◌, ◌/◌, ◌%◌, ◌^◌, Bool, false, cond, not, ◌&&◌, ◌||◌, List, ◌≡◌, eqb, leb, ltb, length}
+use Rattle.std.specs.Prelude.{ℕ, ◌+◌, ◌-◌, ◌*◌, ◌/◌, ◌%◌, ◌^◌, Bool, false, cond, not, ◌&&◌, ◌||◌, List, ◌≡◌, eqb, leb, ltb, length, Option, Some, None}
 use Rattle.std.specs.Int.Bits.{bit_xor}
 use Rattle.octets.specs.LittleEndian.{read_le, write_le}
 use Rattle.gf128.specs.Bytes.{block_at, put_block}
@@ -12,8 +12,7 @@ use Rattle.vector_kind.specs.declared.Kind.{Kind}
 use Rattle.vector_kind.specs.declared.Kind.TheVariants.{VclmulVv, VclmulVx, VclmulhVv, VclmulhVx, VghshVv, VghshVs, VgmulVv, VgmulVs}
 use Rattle.vector_kind.specs.Kinds.{is_ghash, is_vv, is_vs, has_vs1_group}
 use Rattle.vector_word.specs.declared.Fields.{Fields}
-use Rattle.vector_word.specs.declared.Word.{Word}
-use Rattle.vector_word.specs.declared.Word.TheVariants.{Known, Unknown}
+use Rattle.vector_word.specs.declared.Instruction.{Instruction}
 use Rattle.vector_word.specs.Word.{decode}
 use Rattle.vector_product.specs.declared.clmul.Half.{Half}
 use Rattle.vector_product.specs.declared.clmul.Half.TheVariants.{Low, High}
@@ -69,10 +68,13 @@ old7 k f s = is_vs k && (leb f.vd f.vs2 && ltb f.vs2 (f.vd + s.lmul))
 abbrev pub old8 : Kind → Fields → Bool
 old8 k f = eqb f.vm 0 && (eqb f.vd 0 || (eqb f.vs2 0 || (is_vv k && eqb f.vs1 0)))
 
-abbrev pub old_refusal_of_word : Word → OldSettings → ℕ
-old_refusal_of_word Unknown s = 2
-old_refusal_of_word (Known k f) s =
+abbrev pub old_refusal_of_known : Kind → Fields → OldSettings → ℕ
+old_refusal_of_known k f s =
     cond (old3 s) 3 (cond (old4 k s) 4 (cond (old5 k s) 5 (cond (old6 k f s) 6 (cond (old7 k f s) 7 (cond (old8 k f) 8 0)))))
+
+abbrev pub old_refusal_of_word : Option Instruction → OldSettings → ℕ
+old_refusal_of_word None s = 2
+old_refusal_of_word (Some i) s = old_refusal_of_known i.kind i.fields s
 
 unfoldable pub old_refusal_of : ℕ → ℕ → OldSettings → ℕ
 old_refusal_of file_length word s = cond (old1 file_length s) 1 (old_refusal_of_word (decode word) s)
@@ -117,16 +119,19 @@ old_ghash multiplier key f s file =
 
 -- ---- the old executor
 
-abbrev pub old_done : Word → OldSettings → ℕ → List ℕ → List ℕ
-old_done Unknown s scalar file = file
-old_done (Known VclmulVv f) s scalar file = old_carryless Low (old_vs1 f s) f s file
-old_done (Known VclmulVx f) s scalar file = old_carryless Low (old_scalar scalar f s) f s file
-old_done (Known VclmulhVv f) s scalar file = old_carryless High (old_vs1 f s) f s file
-old_done (Known VclmulhVx f) s scalar file = old_carryless High (old_scalar scalar f s) f s file
-old_done (Known VghshVv f) s scalar file = old_ghash (old_y_xor_x f s) (λ g i. old_group s g f.vs2 i) f s file
-old_done (Known VghshVs f) s scalar file = old_ghash (old_y_xor_x f s) (λ g i. old_group s file f.vs2 0) f s file
-old_done (Known VgmulVv f) s scalar file = old_ghash (old_y f s) (λ g i. old_group s g f.vs2 i) f s file
-old_done (Known VgmulVs f) s scalar file = old_ghash (old_y f s) (λ g i. old_group s file f.vs2 0) f s file
+abbrev pub old_done_known : Kind → Fields → OldSettings → ℕ → List ℕ → List ℕ
+old_done_known VclmulVv f s scalar file = old_carryless Low (old_vs1 f s) f s file
+old_done_known VclmulVx f s scalar file = old_carryless Low (old_scalar scalar f s) f s file
+old_done_known VclmulhVv f s scalar file = old_carryless High (old_vs1 f s) f s file
+old_done_known VclmulhVx f s scalar file = old_carryless High (old_scalar scalar f s) f s file
+old_done_known VghshVv f s scalar file = old_ghash (old_y_xor_x f s) (λ g i. old_group s g f.vs2 i) f s file
+old_done_known VghshVs f s scalar file = old_ghash (old_y_xor_x f s) (λ g i. old_group s file f.vs2 0) f s file
+old_done_known VgmulVv f s scalar file = old_ghash (old_y f s) (λ g i. old_group s g f.vs2 i) f s file
+old_done_known VgmulVs f s scalar file = old_ghash (old_y f s) (λ g i. old_group s file f.vs2 0) f s file
+
+abbrev pub old_done : Option Instruction → OldSettings → ℕ → List ℕ → List ℕ
+old_done None s scalar file = file
+old_done (Some i) s scalar file = old_done_known i.kind i.fields s scalar file
 
 unfoldable pub old_executed : ℕ → OldSettings → ℕ → List ℕ → List ℕ
 old_executed word s scalar file = cond (eqb (old_refusal_of (length file) word s) 0) (old_done (decode word) s scalar file) file

@@ -1,10 +1,10 @@
 -- A trace as it stood before document 02's Ask 5, with a zero byte in each record: what reading and replay made of it, over the old executor
 -- (`Executor`). Replay does the same with it now (`OldTracesSame`); `OldTracesTaken` shows which traces that speaks of.
 -- Assumes nothing.
-use Rattle.std.specs.Prelude.{ℕ, zero, suc, ◌+◌, ◌/◌, ◌%◌, Bool, true, false, cond, ◌&&◌, List, [], ◌∷◌, ◌++◌, ◌≡◌, eqb, length, replicate}
+use Rattle.std.specs.Prelude.{ℕ, zero, suc, ◌+◌, ◌/◌, ◌%◌, Bool, true, false, cond, ◌&&◌, List, [], ◌∷◌, ◌++◌, ◌≡◌, eqb, length, replicate, Ok, Err}
 use Rattle.octets.specs.LittleEndian.{read_le}
 use Rattle.without_policies.specs.Executor.{OldSettings, old_refusal_of, old_executed}
-use Rattle.trace_replay.specs.declared.Replayed.TheVariants.{Done, Differs, Refused}
+use Rattle.trace_replay.specs.declared.Stopped.TheVariants.{Differs, Refused}
 use Rattle.trace_replay.specs.Replay.{Outcome, replayed}
 
 pub record OldRecord : Type 0 where
@@ -39,11 +39,11 @@ old_called vlen r file = old_executed r.word (old_settings_of vlen r) r.scalar f
 
 -- n records, the first of them, record i, at `at`
 unfoldable pub old_replay_from : ℕ → ℕ → List ℕ → ℕ → ℕ → List ℕ → Outcome
-old_replay_from vlen zero trace at i file = record { answer = Done i; file = file }
+old_replay_from vlen zero trace at i file = record { answer = Ok i; file = file }
 old_replay_from vlen (suc n) trace at i file =
     cond (old_agrees vlen (old_record_at trace at) file)
     (old_replay_from vlen n trace (at + 24) (i + 1) (old_called vlen (old_record_at trace at) file))
-    (record { answer = Differs i; file = file })
+    (record { answer = Err (Differs i); file = file })
 
 -- whole records, whose zero bytes are zero
 unfoldable pub old_zeros : ℕ → List ℕ → ℕ → Bool
@@ -55,7 +55,7 @@ old_well_formed trace = eqb (length trace % 24) 0 && old_zeros (length trace / 2
 
 abbrev pub old_replayed : ℕ → List ℕ → List ℕ → Outcome
 old_replayed vlen file trace =
-    cond (old_well_formed trace) (old_replay_from vlen (length trace / 24) trace 0 0 file) (record { answer = Refused; file = file })
+    cond (old_well_formed trace) (old_replay_from vlen (length trace / 24) trace 0 0 file) (record { answer = Err Refused; file = file })
 
 -- ---- the statement: the answer and the file of a trace that replay took are the old ones
 

@@ -1,6 +1,5 @@
 -- `block_at` meets its contract: a block is read as two halves, and is zero past the end. Assumes nothing.
-use mathlib.Core.Path.{sym, ap₂, ◌∙◌}
-use Prim.Native.Nat.{ℕ, ◌+◌, ◌*◌, ◌^◌}
+use Rattle.std.proofs.Common.{ℕ, ◌+◌, ◌*◌, ◌^◌, sym, ap₂, ◌∙◌}
 use Rattle.octets.proofs.BigEndian.{be_at-split, be_at-past}
 use Rattle.ghash_bytes.proofs.block_at.Goals as goal
 
@@ -9,5 +8,4 @@ returns-then-s-at c = sym (be_at-past c.args.s.now c.args.at 16 c.if-s-at.true)
 
 pub returns : goal.returns
 returns c =
-    let a = c.args in
-    ap₂ (λ (p q : ℕ). p * 256 ^ 8 + q) c.read_be8.ensures c.read_be8-2.ensures ∙ sym (be_at-split a.s.now a.at 8 8)
+    ap₂ (λ (p q : ℕ). p * 256 ^ 8 + q) c.read_be8.ensures c.read_be8-2.ensures ∙ sym (be_at-split c.args.s.now c.args.at 8 8)

@@ -1,12 +1,7 @@
 -- `product_fast` is the product. The loop's invariant: after i rounds the chain has done 4 · i coefficients of each quarter,
 -- from the last on, the quarters are without them, and the entries of the next four are read. Assumes nothing.
-use mathlib.Core.Path.{◌≡◌, refl, sym, ap, ap₂, ◌∙◌}
-use Prim.Native.Nat.{ℕ, ◌+◌, ◌*◌, ◌/◌, ◌%◌, ◌^◌, ◌≤◌, ◌<◌}
-use native.Mathlib.Nat.{div-one, mod-lt}
-use native.Mathlib.Omega.{arith}
-use lib.Bits.{bit_xor}
-use lib.Pow.{pow_pos, shr_lt, split}
-use borrow.Author.Rules.{rules}
+use Rattle.std.proofs.Common.{◌≡◌, refl, sym, ap, ap₂, ◌∙◌, ℕ, ◌+◌, ◌*◌, ◌/◌, ◌%◌, ◌^◌, ◌≤◌, ◌<◌, div-one, mod-lt, arith, bit_xor, pow_pos, shr_lt, rules}
+use lib.Pow.{split}
 use Rattle.gf128.specs.Field.{reduction, shifted_of, shifted, product}
 use Rattle.gf128.proofs.Chain.{chain-start, chain-step, chain-end}
 use Rattle.ghash_block.specs.Block.{value_of}
@@ -36,9 +31,8 @@ ended h high low lh ll =
     (shr_lt 32 32 lh) (mod-lt high (pow_pos 32)) (shr_lt 32 32 ll) (mod-lt low (pow_pos 32))
     ∙ ap₂ (λ (x y : ℕ). product (x * 2 ^ 64 + y) h) (split high 32) (split low 32)
 
-pub loop-i-init : goal.loop-i-init
-loop-i-init c = (
-  omega arith,
+pub loop-init : goal.loop-init
+loop-init c = (
   sym (div-one _),
   sym (div-one _),
   sym (div-one _),
@@ -47,32 +41,31 @@ loop-i-init c = (
   c.entries-e.ensures,
 )
 
-pub loop-i-preserved : goal.loop-i-preserved
-loop-i-preserved c =
-    let i = c.loop-i.i in
-    let inv = c.loop-i.invariant in
+pub loop-preserved : goal.loop-preserved
+loop-preserved c =
+    let i = c.loop.counter in
+    let inv = c.loop.invariant in
     let next : 4 * i + 4 ≡ 4 * (i + 1) = omega arith in (
-      omega arith,
+      four-leave _ i inv.0 next,
       four-leave _ i inv.1 next,
       four-leave _ i inv.2 next,
       four-leave _ i inv.3 next,
-      four-leave _ i inv.4 next,
       λ h table.
           c.xor-z.ensures
-          ∙ ap (λ (x : ℕ). bit_xor x (value_of c.loop-i.e)) (c.times_x4.ensures table.whole.reductions)
-          ∙ stepped h _ _ _ _ _ _ _ _ _ _ i inv.1 inv.2 inv.3 inv.4 (inv.5 h table) (inv.6 h table) (omega arith)
+          ∙ ap (λ (x : ℕ). bit_xor x (value_of c.loop.e)) (c.times_x4.ensures table.whole.reductions)
+          ∙ stepped h _ _ _ _ _ _ _ _ _ _ i inv.0 inv.1 inv.2 inv.3 (inv.4 h table) (inv.5 h table) (omega arith)
           ∙ ap (chain_of h _ _ _ _) next,
-      c.entries-e-in-loop-i.ensures,
+      c.entries-e-in-loop.ensures,
     )
 
 pub returns : goal.returns
 returns c h table =
-    let i = c.loop-i.i in
-    let inv = c.loop-i.invariant in
+    let i = c.loop.counter in
+    let inv = c.loop.invariant in
     let u = c.args.u in
     let done : 4 * i + 4 ≡ 32 = omega arith in
     c.xor.ensures
-    ∙ ap (λ (x : ℕ). bit_xor x (value_of c.loop-i.e)) (c.times_x4-2.ensures table.whole.reductions)
-    ∙ stepped h _ _ _ _ _ _ _ _ _ _ i inv.1 inv.2 inv.3 inv.4 (inv.5 h table) (inv.6 h table) (omega arith)
+    ∙ ap (λ (x : ℕ). bit_xor x (value_of c.loop.e)) (c.times_x4-2.ensures table.whole.reductions)
+    ∙ stepped h _ _ _ _ _ _ _ _ _ _ i inv.0 inv.1 inv.2 inv.3 (inv.4 h table) (inv.5 h table) (omega arith)
     ∙ ap (chain_of h _ _ _ _) done
     ∙ ended h u.0 u.1 (search rules) (search rules)

@@ -1,7 +1,6 @@
 -- `product_fast` is the product. The loop's invariant: after i rounds the chain has done 4 · i coefficients of each quarter,
 -- from the last on, the quarters are without them, and the entries of the next four are read. Assumes nothing.
-use mathlib.Core.Path.{◌≡◌}
-use Prim.Native.Nat.{ℕ, ◌-◌, ◌*◌, ◌/◌, ◌%◌, ◌^◌, ◌≤◌}
+use Rattle.std.proofs.Common.{◌≡◌, ℕ, ◌*◌, ◌/◌, ◌%◌, ◌^◌}
 use Rattle.gf128.specs.Field.{reduction, shifted}
 use Rattle.gf128.proofs.Chain.{chain}
 use Rattle.ghash_block.specs.Block.{value_of}
@@ -12,11 +11,8 @@ use Rattle.ghash_fast.proofs.product_fast.Given as goal
 abbrev pub chain_of : ℕ → ℕ → ℕ → ℕ → ℕ → ℕ → ℕ
 chain_of h = chain 127 reduction (shifted h 0) (shifted h 32) (shifted h 64) (shifted h 96)
 
-abbrev pub invariant-loop-i : goal.invariant-loop-i
-invariant-loop-i l =
-    (l.i ≤ 7) × (l.a ≡ l.initial.a / 2 ^ (4 * l.i)) × (l.b ≡ l.initial.b / 2 ^ (4 * l.i)) × (l.c ≡ l.initial.c / 2 ^ (4 * l.i)) × (l.d ≡ l.initial.d / 2 ^ (4 * l.i))
-    × ((h : ℕ) → TableOf h l.t → value_of l.z ≡ chain_of h l.initial.a l.initial.b l.initial.c l.initial.d (4 * l.i))
+abbrev pub invariant-loop : goal.invariant-loop
+invariant-loop l =
+    (l.a ≡ l.initial.a / 2 ^ (4 * l.counter)) × (l.b ≡ l.initial.b / 2 ^ (4 * l.counter)) × (l.c ≡ l.initial.c / 2 ^ (4 * l.counter)) × (l.d ≡ l.initial.d / 2 ^ (4 * l.counter))
+    × ((h : ℕ) → TableOf h l.t → value_of l.z ≡ chain_of h l.initial.a l.initial.b l.initial.c l.initial.d (4 * l.counter))
     × ((h : ℕ) → TableOf h l.t → value_of l.e ≡ entries_of h (l.a % 2 ^ 4) (l.b % 2 ^ 4) (l.c % 2 ^ 4) (l.d % 2 ^ 4))
-
-abbrev pub decreases-loop-i : goal.decreases-loop-i
-decreases-loop-i l = 7 - l.i

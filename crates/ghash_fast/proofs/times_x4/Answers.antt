@@ -1,7 +1,6 @@
 -- `times_x4` is times x four times: what stays moves on by the halves, and what leaves comes back reduced.
 -- Assumes nothing.
-use Prim.Native.Nat.{◌%◌}
-use borrow.Author.Rules.{rules}
+use Rattle.std.proofs.Common.{◌%◌, rules}
 use Rattle.gf128.specs.Field.{reduction}
 use Rattle.ghash_block.proofs.Halves.{halves-shifted}
 use Rattle.ghash_fast.proofs.times_x4.Goals as goal

@@ -1,5 +1,5 @@
 -- `times_x` meets its contract: times x goes by the halves. Assumes nothing.
-use native.Mathlib.Omega.{arith}
+use Rattle.std.proofs.Common.{arith}
 use Rattle.ghash_block.proofs.Halves.{halves-times_x}
 use Rattle.ghash_plain.proofs.times_x.Goals as goal
 

@@ -1,6 +1,5 @@
 -- `length_block` is the block of the two bit lengths. Assumes nothing.
-use mathlib.Core.Path.{ap₂}
-use Prim.Native.Nat.{ℕ, ◌+◌, ◌*◌, ◌^◌}
+use Rattle.std.proofs.Common.{ℕ, ◌+◌, ◌*◌, ◌^◌, ap₂}
 use Rattle.gf128.specs.Hash.{length_block}
 use Rattle.ghash_step.proofs.length_block.Goals as goal
 

@@ -1,6 +1,6 @@
 -- `put_multiples` puts the sixteen multiples, four at a time: 8, 4, 2 and 1 are the key times x, no to three times, and the others are sums.
 -- Assumes nothing.
-use native.Mathlib.Omega.{arith}
+use Rattle.std.proofs.Common.{arith}
 use Rattle.ghash_tables.proofs.Multiples.{sixteen-put}
 use Rattle.ghash_tables.proofs.put_multiples.Goals as goal
 

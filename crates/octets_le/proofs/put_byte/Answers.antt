@@ -1,5 +1,5 @@
 -- `put_byte` sets a byte; past the end nothing changes. Assumes nothing.
-use mathlib.Core.Path.{sym}
+use Rattle.std.proofs.Common.{sym}
 use lib.Seq.{set_out}
 use Rattle.octets_le.proofs.put_byte.Goals as goal
 

@@ -1,15 +1,9 @@
 -- `write_le` writes the n low bytes of a number. The loop's invariant is what is left: to write the bytes that are left
 -- from place i on to the slice as it stands is to write all of them to the slice at entry.
 -- Assumes nothing.
-use Prim.Native.Nat.{◌+◌, ◌-◌, ◌≤◌}
-use mathlib.Core.Path.{◌≡◌}
-use lib.ListN.{length}
+use Rattle.std.proofs.Common.{◌≡◌, ◌+◌, ◌-◌}
 use Rattle.octets.specs.LittleEndian.{write_le}
 use Rattle.octets_le.proofs.write_le.Given as goal
 
 abbrev pub invariant-loop-i : goal.invariant-loop-i
-invariant-loop-i l =
-    (l.i ≤ l.n) × (length l.s ≡ length l.initial.s) × (write_le (l.n - l.i) l.s (l.at + l.i) l.left ≡ write_le l.n l.initial.s l.at l.v)
-
-abbrev pub decreases-loop-i : goal.decreases-loop-i
-decreases-loop-i l = l.n - l.i
+invariant-loop-i l = write_le (l.n - l.i) l.s (l.at + l.i) l.left ≡ write_le l.n l.initial.s l.at l.v

@@ -1,48 +1,21 @@
--- `well_formed` looks at the length and at each record's policy byte. The loop's invariant is what is left: the policy bytes from record i on
--- tell the same as all of them.
--- Assumes nothing.
-use Prim.Native.Nat.{ℕ, ◌-◌, ◌*◌, ◌/◌, ◌%◌}
-use mathlib.Core.Path.{◌≡◌, refl, sym, ap, ◌∙◌}
-use native.Mathlib.Omega.{arith}
-use borrow.Author.Tests.{eq-eqb, ne_eqb, le-leb, lt-leb}
-use lib.ListN.{length}
-use Rattle.trace_record.specs.Record.{record_at}
-use Rattle.trace_form.specs.Form.{policies_from, well_formed}
-use Rattle.trace_form.proofs.WellFormed.{policies-more}
+-- `well_formed` looks at the length and at each record's policy byte. Assumes nothing.
+use Rattle.std.proofs.Common.{ℕ, ◌+◌, ◌*◌, ◌/◌, ◌%◌, length, refl, ◌∙◌, arith, rules, tests, eq-eqb, ne_eqb, leb}
+use Rattle.std.proofs.lemmas.Iterator.{YieldsList-from_range}
+use Rattle.std.proofs.lemmas.Iterator.Search.{all_from_yields_List}
+use Rattle.octets.specs.LittleEndian.{read_le}
+use Rattle.trace_form.specs.Form.{well_formed}
+use Rattle.trace_form.proofs.WellFormed.{policies-all}
 use Rattle.trace_form.proofs.well_formed.Goals as goal
 
-pub returns-then-trace-ne0 : goal.returns-then-trace-ne0
+pub returns-then-trace-eq0 : goal.returns-then-trace-eq0
 unfolding well_formed
-returns-then-trace-ne0 c =
+returns-then-trace-eq0 c =
     let trace = c.args.trace.now in
-    rw (ne_eqb (length trace % 24) 0 c.if-trace-ne0.true) refl
-
-pub returns-then-read_le-gt3 : goal.returns-then-read_le-gt3
-unfolding well_formed record_at
-returns-then-read_le-gt3 c =
-    let trace = c.args.trace.now in
-    let i = c.loop-i.i in
-    let other = lt-leb (record_at trace (24 * i)).policy 3 (omega (arith, c.if-read_le-gt3.true, c.read_le.ensures)) in
-    rw (eq-eqb (length trace % 24) 0 c.if-trace-ne0.false)
-    (sym (policies-more (length trace / 24) trace i c.loop-i-test.true ∙ rw other refl) ∙ c.loop-i.invariant.1)
-
-pub loop-i-preserved : goal.loop-i-preserved
-unfolding record_at
-loop-i-preserved c =
-    let trace = c.args.trace.now in
-    let i = c.loop-i.i in
     let n = length trace / 24 in
-    let allowed = le-leb (record_at trace (24 * i)).policy 3 (omega (arith, c.if-read_le-gt3.false, c.read_le.ensures)) in (
-      omega arith,
-      sym (policies-more n trace i c.loop-i-test.true ∙ rw allowed refl) ∙ c.loop-i.invariant.1,
-    )
+    rw (eq-eqb (length trace % 24) 0 c.if-trace-eq0.true)
+    (all_from_yields_List (λ (i : ℕ). leb (read_le trace (24 * i + 7) 1) 3) _ _ _ c.all.ensures.ran (YieldsList-from_range 0 n n (cc) (omega arith)) (λ x b q k. search (rules, tests))
+    ∙ policies-all n trace 0)
 
-pub returns : goal.returns
-unfolding well_formed policies_from
-returns c =
-    let trace = c.args.trace.now in
-    let i = c.loop-i.i in
-    let n = length trace / 24 in
-    let none : n - i ≡ 0 = omega arith in
-    rw (eq-eqb (length trace % 24) 0 c.if-trace-ne0.false)
-    (sym (ap (λ (k : ℕ). policies_from k trace (24 * i)) none) ∙ c.loop-i.invariant.1)
+pub returns-else-trace-eq0 : goal.returns-else-trace-eq0
+unfolding well_formed
+returns-else-trace-eq0 c = rw (ne_eqb (length c.args.trace.now % 24) 0 c.if-trace-eq0.false) refl

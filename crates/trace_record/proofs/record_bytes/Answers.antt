@@ -1,6 +1,6 @@
 -- `record_bytes` gives a record's bytes: its fields, each written at its place over zeros.
 -- Assumes nothing.
-use mathlib.Core.Path.{refl}
+use Rattle.std.proofs.Common.{refl}
 use Rattle.octets.specs.LittleEndian.{write_le, le_bytes}
 use Rattle.trace_record.specs.Record.{record_bytes}
 use Rattle.trace_record.proofs.record_bytes.Goals as goal

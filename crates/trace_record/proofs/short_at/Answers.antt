@@ -1,8 +1,7 @@
 -- `short_at` gives a number of at most 4 bytes: it is under 2^32.
 -- Assumes nothing.
-use Prim.Native.Nat.{◌+◌, ◌≤◌}
-use native.Mathlib.Nat.{lt_of_lt_of_le, pow-le-pow_right, zero-lt-suc}
-use native.Mathlib.Omega.{arith}
+use Rattle.std.proofs.Common.{◌+◌, ◌≤◌, lt_of_lt_of_le, zero-lt-suc, arith}
+use native.Mathlib.Nat.{pow-le-pow_right}
 use Rattle.octets.specs.Bytes.{AreBytes}
 use Rattle.octets.proofs.LittleEndian.{read-lt}
 use Rattle.trace_record.proofs.short_at.Goals as goal

@@ -1,8 +1,6 @@
 -- `write_record` refuses, or writes the record over the whole slice.
 -- Assumes nothing.
-use mathlib.Core.Path.{refl, sym, ◌∙◌}
-use lib.ListN.{length}
-use borrow.Author.Tests.{eq-eqb}
+use Rattle.std.proofs.Common.{refl, sym, ◌∙◌, length, eq-eqb}
 use Rattle.octets.proofs.Stores.{sets-whole}
 use Rattle.trace_record.specs.Record.{record_bytes}
 use Rattle.trace_record.proofs.Bytes.{length-record_bytes}

@@ -1,18 +1,23 @@
--- `ones_between` writes ones bits to a range of bytes. The loop's invariant is what is left: the bytes from p on, in the file as it stands.
+-- `ones_between` writes ones bits to a range of bytes, as far as the file goes.
 -- Assumes nothing.
-use mathlib.Core.Path.{◌∙◌}
-use Rattle.vector_element.proofs.Steps.{turn, none_left}
-use Rattle.vector_fill.specs.Fill.{ones_at, ones_between}
+use Rattle.std.proofs.Common.{◌≡◌, ℕ, List, ◌-◌, replicate, sym, ap, ◌∙◌, arith, rules}
+use borrow.Rule.Slice.PartMut.{put_mid}
+use Rattle.vector_fill.specs.Fill.{ones_between}
+use Rattle.vector_fill.proofs.Ones.{no_run, ones_run}
 use Rattle.vector_fill.proofs.ones_between.Goals as goal
 
-pub loop-p-preserved : goal.loop-p-preserved
-loop-p-preserved c = (
-  c.put_byte.auto.s ∙ c.loop-p.invariant.0,
-  turn ones_at c.args.to c.loop-p.p c.loop-p.file
-      c.loop-p-test.true c.put_byte.ensures c.loop-p.invariant.1,
-)
-
-pub returns : goal.returns
+pub returns-then-from-end : goal.returns-then-from-end
 unfolding ones_between
-returns c =
-    none_left ones_at c.args.to c.loop-p.p c.loop-p.file c.loop-p-test.false c.loop-p.invariant.1
+returns-then-from-end c =
+    let from = c.args.from in
+    let file = c.args.file.now in
+    let count = c.min-end.result - from in
+    let ones : c.fill.new.self ≡ replicate count 255 = search rules in
+    ap (λ (part : List ℕ). put_mid from count file part) ones ∙ sym (ones_run (c.args.to - from) from count file (omega (arith, c.min-end.ensures)))
+
+pub returns-else-from-end : goal.returns-else-from-end
+unfolding ones_between
+returns-else-from-end c =
+    let from = c.args.from in
+    let file = c.args.file.now in
+    no_run from file ∙ sym (ones_run (c.args.to - from) from 0 file (omega (arith, c.min-end.ensures)))

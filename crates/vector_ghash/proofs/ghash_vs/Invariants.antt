@@ -1,18 +1,13 @@
--- `ghash_vs` does the groups vstart/4 to vl/4 - 1 with one key, read before any write. The loop's invariant: the tables are the
--- key's, and what is left. Assumes nothing.
-use Prim.Native.Nat.{◌-◌}
-use mathlib.Core.Path.{◌≡◌}
-use lib.ListN.{length}
-use Rattle.ghash_tables.specs.Table.{TableOf}
+-- `ghash_vs` does the groups vstart/4 to vl/4 - 1 with one key, read before any write. The loop's invariant is what is left.
+-- Assumes nothing.
+use Rattle.std.proofs.Common.{◌≡◌, ◌-◌, ◌/◌}
 use Rattle.vector_element.specs.Steps.{steps}
 use Rattle.vector_ghash.specs.GhashWords.{group, vs_step}
 use Rattle.vector_ghash.proofs.ghash_vs.Given as goal
 
 abbrev pub invariant-loop-i : goal.invariant-loop-i
 invariant-loop-i l =
-    (length l.file ≡ length l.initial.file)
-    × TableOf (group l.s l.initial.file l.f.vs2 0) l.t
-    × (steps (vs_step (group l.s l.initial.file l.f.vs2 0) l.m l.f l.s) (l.to - l.i) l.i l.file ≡ steps (vs_step (group l.s l.initial.file l.f.vs2 0) l.m l.f l.s) (l.to - l.initial.i) l.initial.i l.initial.file)
-
-abbrev pub decreases-loop-i : goal.decreases-loop-i
-decreases-loop-i l = l.to - l.i
+    let f = l.operands.fields in
+    let s = l.operands.settings in
+    let step = vs_step (group s l.initial.file f.vs2 0) l.m f s in
+    steps step (s.vl / 4 - l.i) l.i l.file ≡ steps step (s.vl / 4 - s.vstart / 4) (s.vstart / 4) l.initial.file

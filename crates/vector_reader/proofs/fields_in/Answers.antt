@@ -1,6 +1,5 @@
 -- `fields_in` reads vd and vs2, and then what follows. Assumes nothing.
-use mathlib.Core.Path.{◌≡◌, ap, ◌∙◌}
-use Prim.Native.Nat.{◌+◌}
+use Rattle.std.proofs.Common.{◌≡◌, ap, ◌∙◌, ◌+◌}
 use Rattle.vector_reader.specs.declared.Scanned.{Scanned}
 use Rattle.vector_reader.specs.Scan.{scanned, operands_at, fields_after, fields_in}
 use Rattle.vector_reader.proofs.fields_in.Goals as goal

@@ -1,14 +1,18 @@
--- `put_answer` meets its contract. Assumes nothing.
-use mathlib.Core.Path.{◌≡◌, ◌∙◌}
-use native.Mathlib.Omega.{arith}
-use lib.ListN.{length}
-use Rattle.ghash_block.specs.Block.{value_of}
-use Rattle.ghash_lent.proofs.Written.{out-put}
+-- `put_answer` writes a block's bytes to an `out` of 16 bytes. Assumes nothing.
+use Rattle.std.proofs.Common.{◌≡◌, sym, ap, ◌∙◌, length, arith}
+use borrow.Author.Tests.{eq-eqb, le-leb}
+use Rattle.gf128.specs.Bytes.{block_bytes, put_block}
+use Rattle.ghash_block.specs.Answer.{block_of}
+use Rattle.octets.proofs.BigEndian.{length-be_bytes}
+use Rattle.octets.proofs.Stores.{sets-whole}
 use Rattle.ghash_lent.proofs.out.put_answer.Goals as goal
 
 pub returns : goal.returns
 returns c =
-    let a = c.args in
-    let e : length a.out.now ≡ 16 = omega arith in
-    let p = out-put a.out.now a.answer.number (value_of a.answer.block) e in
-    (p.0, c.put_block.ensures ∙ p.1)
+    let out = c.args.out.now in
+    let e : length out ≡ 16 = omega arith in
+    let whole = sets-whole out (block_bytes (block_of c.args.answer)) (e ∙ sym (length-be_bytes 16 (block_of c.args.answer))) in
+    rw (eq-eqb (length out) 16 e) (
+      c.number_of.ensures,
+      c.put_block.ensures ∙ ap (put_block out 0) c.block_of.ensures ∙ rw (le-leb 16 (length out) (omega arith)) whole,
+    )

@@ -1,7 +1,6 @@
 -- `even_pieces` keeps the low 8 bits of each lane.
 -- Assumes nothing.
-use mathlib.Core.Path.{◌≡◌, refl, ap, ◌∙◌}
-use lib.Bits.{bit_and}
+use Rattle.std.proofs.Common.{◌≡◌, refl, ap, ◌∙◌, bit_and}
 use Rattle.vector_product.proofs.Lanes.{mask, masked}
 use Rattle.vector_product.proofs.pieces.even_pieces.Goals as goal
 

@@ -1,10 +1,6 @@
 -- `even_products` adds two entries of the window: the low four bits of the piece, and the high four moved up.
 -- Assumes nothing.
-use mathlib.Core.Path.{ap₂, ◌∙◌}
-use Prim.Native.Nat.{ℕ, ◌*◌, ◌/◌, ◌%◌, ◌^◌}
-use native.Mathlib.Nat.{mod-lt}
-use lib.Bits.{bit_xor}
-use lib.Pow.{pow_pos}
+use Rattle.std.proofs.Common.{ap₂, ◌∙◌, ℕ, ◌*◌, ◌/◌, ◌%◌, ◌^◌, mod-lt, bit_xor, pow_pos}
 use Rattle.vector_product.proofs.Lanes.{looked-up}
 use Rattle.vector_product.proofs.pieces.even_products.Goals as goal
 
