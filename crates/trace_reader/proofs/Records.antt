@@ -1,10 +1,10 @@
--- Calls of the reader give the whole records of the trace, then none.
+-- Calls of the reader give the whole records of the trace, then none; and these are what it has left at the start.
 -- Assumes nothing.
-use Rattle.std.proofs.Common.{ℕ, zero, suc, ◌+◌, ◌*◌, ◌/◌, ◌%◌, ◌<◌, List, ◌∷◌, ◌++◌, map, Option, Some, None, ◌≡◌, refl, ap, ◌∙◌, suc-add, zero-add, arith, le-leb, length, replicate}
+use Rattle.std.proofs.Common.{ℕ, zero, suc, ◌+◌, ◌-◌, ◌*◌, ◌/◌, ◌%◌, ◌<◌, List, ◌∷◌, ◌++◌, map, Option, Some, None, ◌≡◌, refl, ap, ◌∙◌, suc-add, zero-add, arith, le-leb, length, replicate}
 use borrow.Author.Tests.{lt-leb}
 use Rattle.trace_record.specs.declared.Record.{Record}
 use Rattle.trace_record.specs.Record.{record_at, records_from}
-use Rattle.trace_reader.specs.Reader.{calls, GivesTheRecords}
+use Rattle.trace_reader.specs.Reader.{calls, GivesTheRecords, LeftIsRecords}
 
 -- at the end, which stays
 ends : (n : ℕ) (trace : List ℕ) (at : ℕ) → length trace < at + 24 → calls n trace at ≡ replicate n None
@@ -24,3 +24,7 @@ from (suc m) later trace at rest short e =
 
 pub gives-the-records : GivesTheRecords
 gives-the-records trace later = from (length trace / 24) later trace 0 (length trace % 24) (omega arith) (omega arith)
+
+pub left-is-records : LeftIsRecords
+left-is-records trace =
+    let all : length trace - 0 ≡ length trace = omega arith in ap (λ (n : ℕ). records_from (n / 24) trace 0) all

@@ -29,3 +29,7 @@ calls (suc n) trace at = next_at trace at ∷ calls n trace (place_after trace a
 -- from the start, as many calls as there are whole records give them in order, and all later ones none
 abbrev pub GivesTheRecords : Type 0
 GivesTheRecords = (trace : List ℕ) (later : ℕ) → calls (length trace / 24 + later) trace 0 ≡ map Some (records trace) ++ replicate later None
+
+-- what a reader at the start has left, as an iterator, are the whole records of the trace
+abbrev pub LeftIsRecords : Type 0
+LeftIsRecords = (trace : List ℕ) → records_left trace 0 ≡ records trace
