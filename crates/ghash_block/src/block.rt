@@ -69,7 +69,7 @@ impl From<Block> for Key {
     ghost from_gives = { λ b h. key_of h ≡ value_of b };
 
     fn from(b: Block) -> Key {
-        Key(b.0, b.1)
+        Key::new(b.0, b.1)
     }
 }
 

@@ -5,6 +5,7 @@ ghost use Rattle.known_words.specs.Call.{number_at, GroupIs, group_agrees};
 
 use crate::call::number_at;
 use known_bytes::pattern::{Pattern, fill};
+use octets_slice::same;
 use refusal::number_of;
 use vector_group::{GroupAt, group, group_read};
 
@@ -21,7 +22,7 @@ fn part_is(s: &[u8], changed: &[u8], file: &[u8], asked: GroupAt) -> bool
     ensures { IsTrue result ↔ GroupIs asked.vlen file.now asked.lmul asked.register (number_at s.now 40) changed.now }
 {
     let ok = number_of(asked.refusal(file.len())) == number_at(s, 40);
-    ok & (group_read(file, asked) == changed)
+    ok & same(group_read(file, asked), changed)
 }
 
 // Writes to the group that a record asks for; whether the number and the part are the record's.

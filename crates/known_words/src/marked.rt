@@ -10,6 +10,7 @@ use known_bytes::pattern::fill;
 use known_compare::tally::count;
 use known_report::report::report_marked;
 use octets_le::write_le;
+use octets_slice::same;
 use std::io;
 use vector_execute::execute::execute;
 use vector_kind::Kind;
@@ -67,7 +68,7 @@ fn element_becomes(word: u32, sew: u32, a: u64, b: u64, element: u64) -> bool
     put_elements(&mut expected, sew, a, b);
     put_element(&mut expected, 16, sew, element);
     let ok = executes(word, sew, &mut file);
-    ok & (file == expected)
+    ok & same(&file, &expected)
 }
 
 // Elements a by b.

@@ -11,7 +11,7 @@ use known_compare::tally::count;
 use known_report::data_file::read;
 use known_report::report::report;
 use octets_le::read_le;
-use octets_slice::{part_end, put};
+use octets_slice::{part_end, put, same};
 use refusal::number_of;
 use std::io;
 use std::rt::Files;
@@ -72,7 +72,7 @@ fn leaves(s: &[u8], changed: &[u8], file: &mut [u8], wanted: &mut [u8]) -> bool
     fill(BEFORE, file);
     expect(s, changed, wanted);
     let ok = does(s, changed, &mut file[..file_len]);
-    ok & (&*file == &*wanted)
+    ok & same(file, wanted)
 }
 
 // The same on a file of its own; of a register group nothing is said here.

@@ -94,7 +94,7 @@ pub extern "C" fn rvghash_group(
     match asked.part(file_len) {
         Ok(part) => {
             *start = part.start;
-            *length = part.end - part.start;
+            *length = part.length;
             0
         }
         Err(refusal) => {

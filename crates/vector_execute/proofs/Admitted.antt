@@ -1,7 +1,7 @@
 -- What it tells of a word and its settings that the number is 0: the word is one of the eight, and none of the refusals applies;
 -- and what a call leaves, by its number.
 -- Assumes nothing.
-use Rattle.std.proofs.Common.{◌≡◌, ℕ, ◌<◌, true, false, cond, not, ◌||◌, eqb, ltb, List, length, Option, Some, refl, subst, arith, zero-lt-suc, eq-eqb, ne_eqb}
+use Rattle.std.proofs.Common.{◌≡◌, ℕ, ◌<◌, true, false, cond, not, ◌||◌, eqb, ltb, List, length, Option, Some, None, refl, subst, arith, zero-lt-suc, suc-ne-zero, eq-eqb, ne_eqb}
 use borrow.Author.Tests.{not-false}
 use Rattle.vector_registers.specs.declared.settings.Settings.{Settings}
 use Rattle.vector_word.specs.declared.Fields.{Fields}
@@ -42,7 +42,19 @@ known file_length k f s h1 e =
     let p8 = passed (applies8 k f) 8 0 (zero-lt-suc 7) p7.1 in
     record { not1 = h1; not3 = p.0; not4 = p.1; not5 = p.2; not6 = p.3; not7 = p7.0; not8 = p8.0 }
 
--- of a word whose number is 0
+pub admitted : (file_length word : ℕ) (s : Settings) → refusal_of file_length word s ≡ 0
+    → (k : Kind) × (f : Fields) × (decode word ≡ Some (instruction k f)) × Admitted file_length k f s
+unfolding refusal_of
+admitted file_length word s e =
+    let p1 = passed (applies1 file_length s.vlen) 1 (refusal_of_word (decode word) s) (zero-lt-suc 0) e in
+    go (decode word) refl p1.0 p1.1
+  where
+    go : (w : Option Instruction) → decode word ≡ w → applies1 file_length s.vlen ≡ false → refusal_of_word w s ≡ 0
+        → (k : Kind) × (f : Fields) × (decode word ≡ Some (instruction k f)) × Admitted file_length k f s
+    go None d h1 r = absurd (suc-ne-zero 1 r)
+    go (Some i) d h1 r = (i.kind, i.fields, d, known file_length i.kind i.fields s h1 r)
+
+-- the same of a word whose kind and fields are known
 pub admitted-as : (file_length word : ℕ) (s : Settings) {k : Kind} {f : Fields} → decode word ≡ Some (instruction k f) → refusal_of file_length word s ≡ 0 → Admitted file_length k f s
 unfolding refusal_of
 admitted-as file_length word s {k} {f} d e =

@@ -68,7 +68,8 @@ fn vv_step(
     vs_step(key, m, operands, i, file);
 }
 
-// Groups vstart/4 to vl/4 - 1, each with a key of its own.
+// Groups vstart/4 to vl/4 - 1, each with a key of its own. Not inline, nor the other: the executor's frame would have the tables of both.
+#[inline(never)]
 pub fn ghash_vv(m: GhashMultiplier, operands: Operands, file: &mut [u8])
     ensures { file.new ≡ ghash_vv m operands.fields operands.settings file.old }
 {
@@ -80,6 +81,7 @@ pub fn ghash_vv(m: GhashMultiplier, operands: Operands, file: &mut [u8])
 }
 
 // The same groups, with one key, which is read before any write.
+#[inline(never)]
 pub fn ghash_vs(m: GhashMultiplier, operands: Operands, file: &mut [u8])
     ensures { file.new ≡ ghash_vs m operands.fields operands.settings file.old }
 {

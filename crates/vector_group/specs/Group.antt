@@ -1,7 +1,7 @@
 -- Document 01: "Asked for a register group, the library hands back that group's own bytes of the lent file."
 -- Assumes nothing.
-use Rattle.std.specs.Prelude.{ℕ, ◌+◌, ◌*◌, cond, not, ◌||◌, List, eqb, ltb, length, take, drop}
-use Rattle.std.specs.declared.ops.Range.{Range}
+use Rattle.std.specs.Prelude.{ℕ, ◌*◌, cond, not, ◌||◌, List, eqb, ltb, length, take, drop}
+use Rattle.vector_group.specs.declared.Part.{Part}
 use Rattle.vector_registers.specs.Settings.{applies1, lmul_allowed, misaligned, register_bytes, group_length}
 
 -- the separate question: 1 as in the table, 3 if LMUL isn't allowed, 6 if the register is over 31 or no multiple of LMUL, else 0
@@ -20,15 +20,15 @@ abbrev pub part_length : ℕ → ℕ → ℕ → ℕ → ℕ
 part_length vlen file_length lmul register =
     cond (eqb (group_refusal vlen file_length lmul register) 0) (group_length vlen lmul) 0
 
--- the two as a range of bytes, and the one that stands for no part
-abbrev pub part_of : ℕ → ℕ → ℕ → ℕ → Range ℕ
+-- the two together, and what stands for no part
+abbrev pub part_of : ℕ → ℕ → ℕ → ℕ → Part
 part_of vlen file_length lmul register = record {
   start = part_start vlen file_length lmul register;
-  end = part_start vlen file_length lmul register + part_length vlen file_length lmul register;
+  length = part_length vlen file_length lmul register;
 }
 
-abbrev pub nowhere : Range ℕ
-nowhere = record { start = 0; end = 0 }
+abbrev pub nowhere : Part
+nowhere = record { start = 0; length = 0 }
 
 -- the part's bytes
 unfoldable pub group_of : ℕ → List ℕ → ℕ → ℕ → List ℕ

@@ -7,7 +7,6 @@ ghost use Rattle.refusal.specs.Refusal.{number_of};
 ghost use Rattle.vector_group.specs.Group.{group_refusal, part_start, nowhere, part_of, group_of};
 
 use refusal::Refusal;
-use std::ops::Range;
 use vector_registers::settings::{
     applies_1, group_length, lmul_allowed, misaligned, register_bytes,
 };
@@ -18,6 +17,21 @@ pub struct GroupAt {
     pub vlen: u32,
     pub lmul: u32,
     pub register: u32,
+}
+
+// The part of the file that a group is: its start and length in bytes.
+#[derive(Clone, Copy, PartialEq, Eq)]
+pub struct Part {
+    pub start: usize,
+    pub length: usize,
+}
+
+impl Part {
+    // No part: where a group is refused.
+    const NOWHERE: Part = Part {
+        start: 0,
+        length: 0,
+    };
 }
 
 impl GroupAt {
@@ -38,14 +52,16 @@ impl GroupAt {
         Ok(())
     }
 
-    // Where the group lies in a file of this length, as a range of bytes.
-    pub fn part(self, file_len: usize) -> Result<Range<usize>, Refusal>
+    // Where the group lies in a file of this length.
+    pub fn part(self, file_len: usize) -> Result<Part, Refusal>
         ensures { (number_of result ≡ group_refusal self.vlen file_len self.lmul self.register)
             × (result_unwrap_or result nowhere ≡ part_of self.vlen file_len self.lmul self.register) }
     {
         self.refusal(file_len)?;
-        let start = (self.register as usize) * register_bytes(self.vlen);
-        Ok(start..start + group_length(self.vlen, self.lmul))
+        Ok(Part {
+            start: (self.register as usize) * register_bytes(self.vlen),
+            length: group_length(self.vlen, self.lmul),
+        })
     }
 }
 
@@ -56,8 +72,8 @@ pub fn group<'a>(file: &'a mut [u8], asked: GroupAt) -> &'a mut [u8]
         × (result.ref_ptr.0 ≡ file.entry.ref_ptr.0)
         × (result.ref_ptr.1 ≡ file.entry.ref_ptr.1 + part_start asked.vlen (length file.old) asked.lmul asked.register) }
 {
-    let part = asked.part(file.len()).unwrap_or(0..0);
-    &mut file[part]
+    let part = asked.part(file.len()).unwrap_or(Part::NOWHERE);
+    &mut file[part.start..part.start + part.length]
 }
 
 // The same to read only: no type stands for `&mut` and `&` both.
@@ -67,6 +83,6 @@ pub fn group_read<'a>(file: &'a [u8], asked: GroupAt) -> &'a [u8]
         × (result.ref_ptr.0 ≡ file.entry.ref_ptr.0)
         × (result.ref_ptr.1 ≡ file.entry.ref_ptr.1 + part_start asked.vlen (length file.now) asked.lmul asked.register) }
 {
-    let part = asked.part(file.len()).unwrap_or(0..0);
-    &file[part]
+    let part = asked.part(file.len()).unwrap_or(Part::NOWHERE);
+    &file[part.start..part.start + part.length]
 }

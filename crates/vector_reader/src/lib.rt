@@ -8,6 +8,7 @@ ghost use Rattle.vector_reader.specs.Scan.{either, kind_in, scanned, operands_at
 ghost use Rattle.vector_reader.specs.Reading.{Reads};
 
 use octets::byte_or_zero;
+use octets_slice::same;
 use refusal::Refusal;
 use vector_kind::Kind;
 use vector_listing::list;
@@ -125,7 +126,7 @@ pub fn read(text: &[u8]) -> Result<u32, Refusal>
     let word = encode(Instruction { kind, fields })?;
     let mut buffer = [0u8; 32];
     let n = list(word, &mut buffer)?;
-    if text != &buffer[..n] {
+    if !same(text, &buffer[..n]) {
         return Err(Refusal::NotAWord);
     }
     Ok(word)

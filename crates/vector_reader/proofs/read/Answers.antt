@@ -1,8 +1,6 @@
 -- `read` lists what the text was taken for, and compares. Assumes nothing.
-use Rattle.std.proofs.Common.{◌≡◌, ℕ, Bool, true, false, not, List, Result, Ok, Err, refl, sym, ap, subst, ◌∙◌, length, take, drop, replicate, take_at, true≢false}
-use Rattle.std.proofs.lemmas.Bool.Decides.{Decides-eqb}
+use Rattle.std.proofs.Common.{◌≡◌, ℕ, List, Result, Ok, Err, refl, sym, ap, subst, ◌∙◌, length, take, drop, replicate, take_at, true≢false}
 use Rattle.std.proofs.lemmas.Result.{err_from_is_err_and}
-use Rattle.std.proofs.lemmas.Slice.Eq.{slice_eq-Decides}
 use Rattle.refusal.specs.declared.Refusal.{Refusal}
 use Rattle.vector_kind.specs.declared.Kind.{Kind}
 use Rattle.vector_word.specs.declared.Fields.{Fields}
@@ -19,10 +17,6 @@ use Rattle.vector_reader.proofs.read.Goals as goal
 -- the text's own text, if it is taken for a word
 abbrev listing : List ℕ → List ℕ
 listing s = text (kind_in s) (fields_in (kind_in s) s)
-
-not-false : (b : Bool) → not b ≡ false → b ≡ true
-not-false true e = refl
-not-false false e = absurd (true≢false e)
 
 is_found : (s : List ℕ) {k : Kind} {f : Fields} {e : Encoded} → k ≡ kind_in s → f ≡ fields_in k s → e ≡ encoded k f → e ≡ found s
 is_found s {k} kind fields done = done ∙ ap (encoded k) fields ∙ ap (λ (j : Kind). encoded j (fields_in j s)) kind
@@ -66,16 +60,16 @@ returns-in_err-n c =
     let e = is_found s c.kind_in-kind.ensures c.fields_in-fields.ensures c.encode.ensures in
     absurd (lists s c.in_ok-word.word (ap answered (sym c.in_ok-word.was) ∙ e) c.list.result c.in_err-n.field-0.0 c.list.ensures.answer c.in_err-n.was)
 
-pub returns-then-ne : goal.returns-then-ne
-returns-then-ne c =
+pub returns-then-not-same : goal.returns-then-not-same
+returns-then-not-same c =
     let s = c.args.text.now in
     let e = ap answered (sym c.in_ok-word.was) ∙ is_found s c.kind_in-kind.ensures c.fields_in-fields.ensures c.encode.ensures in
     let own = compared s c.in_ok-word.word e c.list.result c.in_ok-n.n c.list.ensures.answer c.in_ok-n.was c.list.ensures.text in
-    other_text s (done s c.in_ok-word.word e) (λ same. true≢false (sym c.if-ne.true ∙ c.ne.ensures ∙ ap not ((slice_eq-Decides Decides-eqb s (take c.in_ok-n.n c.list.new.text) _ refl).1 (same ∙ sym own))))
+    other_text s (done s c.in_ok-word.word e) (λ same. true≢false (sym (c.same.ensures.1 (same ∙ sym own)) ∙ c.if-not-same.true))
 
 pub returns : goal.returns
 returns c =
     let s = c.args.text.now in
     let e = ap answered (sym c.in_ok-word.was) ∙ is_found s c.kind_in-kind.ensures c.fields_in-fields.ensures c.encode.ensures in
     let own = compared s c.in_ok-word.word e c.list.result c.in_ok-n.n c.list.ensures.answer c.in_ok-n.was c.list.ensures.text in
-    subst (Reads s) (sym e) (its-text s (done s c.in_ok-word.word e) ((slice_eq-Decides Decides-eqb s (take c.in_ok-n.n c.list.new.text) _ refl).0 (not-false _ (sym c.ne.ensures ∙ c.if-ne.false)) ∙ own))
+    subst (Reads s) (sym e) (its-text s (done s c.in_ok-word.word e) (c.same.ensures.0 c.if-not-same.false ∙ own))
