@@ -19,7 +19,7 @@ pub struct GroupAt {
     pub register: u32,
 }
 
-// The part of the file that a group is: its start and length in bytes.
+// The part of the file that a group is: its start and length in bytes. No `Range`, which is not Copy.
 #[derive(Clone, Copy, PartialEq, Eq)]
 pub struct Part {
     pub start: usize,
