@@ -64,7 +64,7 @@ derive: ## derives the known answers' data again, and compares it with the recor
 	for script in host/derive/*.py; do /usr/bin/python3 $$script || exit 1; done
 	sha256sum --check host/derive/SHA256SUMS
 
-integration: riscv ## measures the libraries; writes the tables of docs/INTEGRATION.md and the checksums of docs/AUDIT.md
+integration: riscv ## measures the libraries; writes the tables of docs/INTEGRATION.md and the checksums and last line of docs/AUDIT.md
 	@host/setup check integration
 	host/integration --write $(lib) x86-64
 	for arch in rv64gc rv64imac; do host/integration --write target/riscv64/$$arch/librvghash.a $$arch; done
